@@ -1,0 +1,5 @@
+pub mod TreeLemmas
+pub mod ForestLemmas
+pub mod SlotLemmas
+pub mod WalkLemmas
+pub mod Visitors

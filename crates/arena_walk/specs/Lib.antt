@@ -1,0 +1,4 @@
+pub mod Tree
+pub mod Forest
+pub mod Slots
+pub mod Walk

@@ -1,0 +1,4 @@
+pub mod Pieces
+pub mod Maps
+pub mod Deltas
+pub mod Answering

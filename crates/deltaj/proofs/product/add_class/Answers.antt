@@ -1,0 +1,10 @@
+use Rattle.deltaj.proofs.Maps.{put_again, get_put-same}
+use Rattle.deltaj.proofs.product.add_class.Goals as goal
+
+pub add_fields-requires-clause-there : goal.add_fields-requires-clause-there
+add_fields-requires-clause-there c = rw (c.in_ok-add_class.ensures.added, c.as_str.ensures.value) (get_put-same _ _ _)
+
+pub returns-clause-added : goal.returns-clause-added
+returns-clause-added c =
+    let added = rw c.as_str.ensures.value at c.in_ok-add_class.ensures.added in
+    rw (added, put_again) at c.add_fields.ensures.added

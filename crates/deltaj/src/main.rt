@@ -1,0 +1,39 @@
+//! The program `deltaj`: the words after its name are a command over a file of the system.
+#![tactic(auto)]
+
+mod answer;
+mod commands;
+mod configuration;
+mod outcome;
+mod product;
+mod program;
+mod status;
+mod system;
+#[cfg(test)]
+mod tests;
+
+use crate::program::run;
+use crate::status::Status;
+use crate::system::{Output, SystemFiles};
+use std::io::ErrorKind;
+use std::process::ExitCode;
+use std::{env, io};
+
+fn main(rt: HostRuntime) -> ExitCode {
+    let status = match words(&rt) {
+        Ok(words) => {
+            let mut files = SystemFiles::new(&rt);
+            let mut out = Output::new(io::writer(&rt));
+            run(rt.alloc(), &words, &mut files, &mut out)
+        }
+        Err(error) if error.kind() == ErrorKind::OutOfMemory => Status::NO_MEMORY,
+        Err(_) => Status::WORDS_UNREADABLE,
+    };
+    ExitCode::from(status.0)
+}
+
+/// The words after the program's name.
+fn words(rt: &HostRuntime) -> io::Result<Vec<String>> {
+    let words = env::args(rt)?;
+    Ok(words.skip(1).collect(rt.alloc())?)
+}

@@ -1,0 +1,5 @@
+pub mod PieceLemmas
+pub mod AnswerLemmas
+pub mod FrontLemmas
+pub mod LexerLemmas
+pub mod TotalLemmas

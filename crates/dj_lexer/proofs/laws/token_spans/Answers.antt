@@ -1,0 +1,11 @@
+use Rattle.dj_lexer.proofs.AnswerLemmas.{tokens_are_spans, tokens_rise, tokens_are_few}
+use Rattle.dj_lexer.proofs.laws.token_spans.Goals as goal
+
+pub returns-clause-tokens_are_spans : goal.returns-clause-tokens_are_spans
+returns-clause-tokens_are_spans c = tokens_are_spans
+
+pub returns-clause-tokens_rise : goal.returns-clause-tokens_rise
+returns-clause-tokens_rise c = tokens_rise
+
+pub returns-clause-tokens_are_few : goal.returns-clause-tokens_are_few
+returns-clause-tokens_are_few c = tokens_are_few

@@ -1,0 +1,7 @@
+pub mod Lexed
+pub mod Alphabet
+pub mod Tokens
+pub mod Symbols
+pub mod Faults
+pub mod Pieces
+pub mod Laws

@@ -1,0 +1,11 @@
+pub mod Steps
+pub mod Repetition
+pub mod Taking
+pub mod Again
+pub mod Texts
+pub mod Accepting
+pub mod Ascii
+pub mod Placing
+pub mod Refusing
+pub mod Adding
+pub mod Whole

@@ -1,0 +1,16 @@
+use Rattle.std.proofs.Common.{◌≡◌, Bool, true, false, not, ◌||◌, refl, sym, ◌∙◌}
+use Rattle.std.specs.Str.{bytes_eq}
+use Rattle.dj_line.specs.View.{text_of, field_of}
+use Rattle.dj_line.specs.Thin.{has_plain_type, is_object}
+use Rattle.dj_line.proofs.Texts.{all_fails}
+use Rattle.dj_line.proofs.resolve.have_plain_types.Goals as goal
+
+other : (a b n : Bool) → a ≡ false → n ≡ not b → n ≡ true → (a || b) ≡ false
+other true b n p q r = absurd cc
+other false true n p q r = absurd cc
+other false false n p q r = refl
+
+pub returns-then-ne : goal.returns-then-ne
+returns-then-ne c =
+    let plain = other (is_object c.text_of-kind.result.now) (bytes_eq c.text_of-kind.result.now c.text_of-name.result.now) c.ne.result (sym c.is_object.ensures ∙ c.if-not-is_object.true) c.ne.ensures c.if-ne.true in
+    sym (all_fails (has_plain_type (text_of c.args.bytes.now c.args.name)) (field_of c.args.bytes.now) c.args.fields.now c.loop-field.field-index _ c.loop-field-test.true (rw (c.text_of-kind.ensures, c.text_of-name.ensures) at plain))

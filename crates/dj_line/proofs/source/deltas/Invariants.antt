@@ -1,0 +1,13 @@
+use Rattle.std.proofs.Common.{◌≡◌, length, map}
+use Rattle.dj_line.specs.Words.{terminals}
+use Rattle.dj_line.specs.Reading.{deltas_at}
+use Rattle.dj_line.specs.View.{delta_of}
+use Rattle.dj_line.proofs.Repetition.{with_front}
+use Rattle.dj_line.proofs.source.deltas.Given as goal
+
+-- what was read and what is still read make the whole
+abbrev pub invariant-pieces : goal.invariant-pieces
+invariant-pieces l = with_front (map (delta_of l.bytes) l.deltas.items) (deltas_at (terminals l.bytes l.rest)) ≡ deltas_at (terminals l.bytes l.tokens)
+
+abbrev pub decreases-pieces : goal.decreases-pieces
+decreases-pieces l = length l.rest

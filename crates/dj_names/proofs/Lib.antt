@@ -1,0 +1,2 @@
+pub mod DistinctTexts
+pub mod Lines

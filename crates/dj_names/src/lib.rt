@@ -1,0 +1,8 @@
+//! Names as numbers, and places of byte offsets.
+#![tactic(auto)]
+
+mod names;
+mod place;
+
+pub use names::{Name, Names};
+pub use place::{Place, place_of};

@@ -1,0 +1,4 @@
+pub mod Literals
+pub mod ClauseLists
+pub mod Derivations
+pub mod Laws

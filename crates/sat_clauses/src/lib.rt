@@ -1,0 +1,14 @@
+//! Clauses of literals, assignments, and derivations by resolution.
+#![tactic(auto)]
+
+mod clauses;
+mod derivation;
+mod laws;
+mod literal;
+#[cfg(test)]
+mod tests;
+
+pub use clauses::Clauses;
+pub use derivation::{Derivation, Link, Step};
+pub use laws::{resolution_is_sound, resolvents_are_sets};
+pub use literal::{Assignment, Lit};
