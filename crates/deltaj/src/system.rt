@@ -15,7 +15,9 @@ pub struct SystemFiles<'a, R: fs::Files + AllocGlobal> {
 }
 
 impl<'a, R: fs::Files + AllocGlobal> SystemFiles<'a, R> {
-    pub fn new(system: &'a R) -> Self {
+    pub fn new(system: &'a R) -> Self
+        ensures { result.faults ≡ 0 }
+    {
         SystemFiles {
             system,
             open: None,
@@ -76,7 +78,9 @@ pub struct Output<W: Write + Drop> {
 }
 
 impl<W: Write + Drop> Output<W> {
-    pub fn new(writer: W) -> Self {
+    pub fn new(writer: W) -> Self
+        ensures { result.faults ≡ 0 }
+    {
         Output { writer, faults: 0 }
     }
 }
