@@ -6,24 +6,28 @@
 -- | the same, from what holds of the tree at each number up to the root's | each_by_number, has_own, each_size |
 -- | the same, from what holds of each node of the arena | each_root |
 -- | the same, from a fact that every tree hands down to its children | each_handed_down |
+-- | the same, from what holds of each node of the tree | each_of_nodes |
 -- | two such facts at once; another that follows from one | EachNode-with, EachNode-map, EachNode-root |
 -- | in `node`, what the outs are, where each is a function of its tree | outs_are, outs_fold |
 -- | in `node`, how many children there are, or one of them | length_outs, out_at |
 -- | what `push` makes of trees that are known | grow-append, last_trees-append |
 -- | how many finished trees there are | trees-nil, length-grow, length-trees-le |
+-- | which tree the node at a number has; which nodes a tree has, and that they are nodes of the arena | tree_at_node, nodes_to, in_arena |
+-- | a walk of your own that keeps a stack of outs | IsAlong: along_start, next_node, along_enough, along_kids, along_next, along_end; along_at and along_with for equal lists |
 -- | a tree from its nodes alone | trees-nodes, same_from_nodes |
-use Rattle.std.proofs.Common.{◌≡◌, ℕ, ◌+◌, ◌-◌, ◌<◌, ◌≤◌, List, [], ◌∷◌, length, map, drop, slice_get, Some, zero, suc, refl, sym, ap, ◌∙◌, subst, sum, length-append, length-take, arith}
+use Rattle.std.proofs.Common.{◌≡◌, ℕ, ◌+◌, ◌-◌, ◌<◌, ◌≤◌, List, [], ◌∷◌, ◌++◌, length, map, take, drop, slice_get, Contains, Some, zero, suc, refl, sym, ap, ◌∙◌, subst, sum, length-append, length-take, arith}
 use Rattle.std.specs.List.{AllZip}
+use Rattle.std.proofs.lemmas.List.{take-append-drop}
+use Rattle.std.proofs.lemmas.List.Elements.{Contains-append_left, Contains-append_right}
 use Rattle.std.proofs.lemmas.List.Sums.{sum_by-cons}
-use Rattle.arena_walk.specs.Tree.{Tree, Trees, branch, no_trees, tree_and, trees_of, list_of, over, root_of, size, size_each, nodes, EachNode, EachNodeOf, fold_tree, fold_each}
+use Rattle.arena_walk.specs.Tree.{Tree, Trees, branch, no_trees, tree_and, trees_of, list_of, over, root_of, size, size_each, nodes, nodes_each, EachNode, EachNodeOf, fold_tree, fold_each}
 use Rattle.arena_walk.specs.Forest.{last_trees, grow, trees, tree_at, first_number, child_number, HasArity}
-use Rattle.arena_walk.proofs.TreeLemmas.{size_above}
 use Rattle.arena_walk.proofs.ForestLemmas.{others, grow-is, size-trees, tree_at_is}
 use Rattle.arena_walk.proofs.WalkLemmas.{grows}
-pub use Rattle.arena_walk.proofs.TreeLemmas.{list_of-trees_of, trees_of-list_of, size_each-append, EachNode-map, EachNode-with, EachNode-root}
-pub use Rattle.arena_walk.proofs.ForestLemmas.{trees-nil, grow-append, last_trees-append, length-last_trees, trees-push, tree_at-append, tree_at_within, has_own}
+pub use Rattle.arena_walk.proofs.TreeLemmas.{list_of-trees_of, trees_of-list_of, size_above, size_each-append, EachNode-map, EachNode-with, EachNode-root}
+pub use Rattle.arena_walk.proofs.ForestLemmas.{trees-nil, grow-append, last_trees-append, length-last_trees, trees-push, tree_at-append, tree_at_node, tree_at_within, nodes_to, has_own}
 pub use Rattle.arena_walk.proofs.SlotLemmas.{size_within}
-pub use Rattle.arena_walk.proofs.WalkLemmas.{numbers-range, Appends-none, Appends-more}
+pub use Rattle.arena_walk.proofs.WalkLemmas.{numbers-range, Appends-none, Appends-more, IsAlong, along_start, along_enough, along_kids, along_next, along_end, along_at, along_with, next_node}
 
 mutual
   -- what holds of every tree and number holds of each node
@@ -59,6 +63,30 @@ pub each_root : {N : Type 0} (Q : N → Type 0) (arity : N → ℕ) (ns : List N
 each_root {N} Q arity ns root t all is =
     each_by_number (λ u _. Q (root_of u)) arity ns root t
     (λ u k _ e. let node = tree_at_is arity ns k u e in subst (λ (n : N). Q n) (sym (ap root_of node.2)) (all k node.0 node.1)) is
+
+-- what holds of each node in the list of a tree's nodes
+mutual
+  pub each_of_nodes : {N : Type 0} (Q : N → Type 0) (first : ℕ) (t : Tree N) → ((n : N) → Contains (nodes t) n → Q n) → EachNode (λ u _. Q (root_of u)) first t
+  each_of_nodes Q first (branch n ks) all = (
+    each_of_nodes_each Q first ks (λ m has. all m (Contains-append_left (nodes_each ks) (n ∷ []) m has)),
+    all n (Contains-append_right (nodes_each ks) (n ∷ []) n (0, omega arith, refl)),
+  )
+
+  each_of_nodes_each : {N : Type 0} (Q : N → Type 0) (first : ℕ) (ks : Trees N) → ((n : N) → Contains (nodes_each ks) n → Q n) → EachNodeOf (λ u _. Q (root_of u)) first ks
+  each_of_nodes_each Q first no_trees all = tt
+  each_of_nodes_each Q first (tree_and t ks) all = (
+    each_of_nodes Q first t (λ m has. all m (Contains-append_left (nodes t) (nodes_each ks) m has)),
+    each_of_nodes_each Q (first + size t) ks (λ m has. all m (Contains-append_right (nodes t) (nodes_each ks) m has)),
+  )
+
+-- a node of a tree is a node of the arena that the tree stands in
+pub in_arena : {N : Type 0} (arity : N → ℕ) (ns : List N) (root : ℕ) (t : Tree N) (n : N) → tree_at arity ns root ≡ Some t → Contains (nodes t) n → Contains ns n
+in_arena {N} arity ns root t n is has =
+    let P : List N → Type 0 = λ ms. Contains ms n in
+    let front = take (root + 1) ns in
+    let before = take (first_number root t) front in
+    let whole : before ++ nodes t ≡ front = ap (λ ms. before ++ ms) (sym (nodes_to arity ns root t is)) ∙ take-append-drop (first_number root t) front in
+    subst P (take-append-drop (root + 1) ns) (Contains-append_left front (drop (root + 1) ns) n (subst P whole (Contains-append_right before (nodes t) n has)))
 
 -- a tree has no more nodes than there are numbers up to its root's
 pub each_size : {N : Type 0} (arity : N → ℕ) (ns : List N) (root : ℕ) (t : Tree N) → tree_at arity ns root ≡ Some t → EachNode (λ u k. size u ≤ k + 1) (first_number root t) t

@@ -7,6 +7,8 @@ mod configuration;
 mod outcome;
 mod product;
 mod program;
+#[cfg(test)]
+mod refutations;
 mod status;
 mod system;
 #[cfg(test)]

@@ -17,7 +17,7 @@ use Rattle.dj_lexer.specs.declared.token.TheConstants.{MAX_DEPTH}
 use Rattle.dj_lexer.specs.Alphabet.{byte_len}
 use Rattle.dj_lexer.specs.Tokens.{HasNoClose, Piece, TokensFrom, TokenList}
 use Rattle.dj_lexer.specs.Tokens as tokens
-use Rattle.dj_lexer.specs.Symbols.{Symbol, symbols_of, depth_after, greatest_depth_from}
+use Rattle.dj_lexer.specs.Symbols.{Symbol, symbols_of, IsToken, depth_after, greatest_depth_from}
 use Rattle.dj_lexer.specs.Faults.{BeginsNothing, FaultFrom, FirstFault, HasTokens}
 use Rattle.dj_lexer.specs.Faults as faults
 use Rattle.dj_lexer.specs.declared.token.Dialect.{Dialect}
@@ -299,3 +299,15 @@ few_in_order low (t ∷ ts) high l (a, b, c, d) = omega (arith, few_in_order t.t
 pub tokens_are_few : (dialect : Dialect) (bytes : List ℕ) (ts : List Token) → TokenList dialect bytes ts → length ts ≤ length bytes
 tokens_are_few dialect bytes ts t =
     omega (arith, few_in_order 0 ts (length bytes) (omega arith) (in_order t.1 (length bytes) (omega (arith, sym (ap length (encodes-chars bytes t.0))))))
+
+each_of_dialect : {dialect : Dialect} {at : ℕ} {text : List ℕ} {ts : List Token} (bytes : List ℕ) → TokensFrom dialect at text ts → Placed bytes at text
+    → AllByRecursion (IsToken dialect) (symbols_of bytes ts)
+each_of_dialect bytes (tokens.end at) w = tt
+each_of_dialect bytes (tokens.skipped at p r ts x y) w = each_of_dialect bytes y (placed_after bytes at p r w)
+each_of_dialect bytes (tokens.token at k p r ts x y) w =
+    ((p, (r, (x, placed_piece bytes at p r w))), each_of_dialect bytes y (placed_after bytes at p r w))
+
+pub tokens_are_of_dialect : (dialect : Dialect) (bytes : List ℕ) (ts : List Token) → TokenList dialect bytes ts → All (IsToken dialect) (symbols_of bytes ts)
+tokens_are_of_dialect dialect bytes ts t =
+    All-from_recursion (IsToken dialect) (symbols_of bytes ts)
+    (each_of_dialect bytes t.1 (record { before = []; splits = sym (encodes-chars bytes t.0); len = refl }))

@@ -2,6 +2,7 @@
 use Rattle.std.specs.Prelude.{◌≡◌, ◌⊎◌, ℕ, ◌<◌, ◌≤◌, List, length, map, All}
 use Rattle.std.specs.List.Sorted.{IsStrictlyIncreasing}
 use Rattle.dj_lexer.specs.Tokens.{TokenList}
+use Rattle.dj_lexer.specs.Symbols.{IsToken, symbols_of}
 use Rattle.dj_lexer.specs.Faults.{FirstFault, HasTokens}
 use Rattle.dj_lexer.specs.declared.token.Dialect.{Dialect}
 use Rattle.dj_lexer.specs.declared.token.Token.{Token}
@@ -27,6 +28,10 @@ TokensAreSpans = (dialect : Dialect) (bytes : List ℕ) (tokens : List Token) �
 -- each token begins after the one before it
 abbrev pub TokensRise : Type 0
 TokensRise = (dialect : Dialect) (bytes : List ℕ) (tokens : List Token) → TokenList dialect bytes tokens → IsStrictlyIncreasing (map (λ s. s.from) tokens)
+
+-- each token is a word or a symbol of the dialect
+abbrev pub TokensAreOfDialect : Type 0
+TokensAreOfDialect = (dialect : Dialect) (bytes : List ℕ) (tokens : List Token) → TokenList dialect bytes tokens → All (IsToken dialect) (symbols_of bytes tokens)
 
 -- there are no more tokens than bytes
 abbrev pub TokensAreFew : Type 0

@@ -1,5 +1,7 @@
 -- Tokens as the symbols of a grammar.
-use Rattle.std.specs.Prelude.{ℕ, ◌+◌, ◌-◌, ◌||◌, ◌==◌, if◌then◌else◌, List, [], ◌∷◌, map, max, slice_range}
+use Rattle.std.specs.Prelude.{◌≡◌, ℕ, ◌+◌, ◌-◌, ◌||◌, ◌==◌, if◌then◌else◌, Some, List, [], ◌∷◌, map, max, slice_range, encode_utf8_all}
+use Rattle.dj_lexer.specs.Tokens.{Piece}
+use Rattle.dj_lexer.specs.declared.token.Dialect.{Dialect}
 use Rattle.dj_lexer.specs.declared.token.TokenKind.{TokenKind}
 use Rattle.dj_lexer.specs.declared.token.Token.{Token}
 
@@ -14,6 +16,10 @@ symbol_of bytes token = record { kind = token.kind; text = slice_range bytes tok
 
 abbrev pub symbols_of : List ℕ → List Token → List Symbol
 symbols_of bytes tokens = map (symbol_of bytes) tokens
+
+-- a symbol that some text of the dialect has as a token
+abbrev pub IsToken : Dialect → Symbol → Type 0
+IsToken dialect s = (text : List ℕ) × ((rest : List ℕ) × (Piece dialect (Some s.kind) text rest × (s.text ≡ encode_utf8_all text)))
 
 -- how many brackets are open after a token of this text: `(` and `{` open one, and `)` and `}` close one where one is open
 abbrev pub depth_after : ℕ → List ℕ → ℕ

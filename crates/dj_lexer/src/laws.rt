@@ -1,5 +1,5 @@
 //! Laws of tokens and faults.
-ghost use Rattle.dj_lexer.specs.Laws.{OneTokenList, OneFirstFault, NoFaultInTokens, TokensOrFault, TokensAreSpans, TokensRise, TokensAreFew};
+ghost use Rattle.dj_lexer.specs.Laws.{OneTokenList, OneFirstFault, NoFaultInTokens, TokensOrFault, TokensAreSpans, TokensRise, TokensAreOfDialect, TokensAreFew};
 
 /// A text has at most one list of tokens of a dialect.
 pub fn one_token_list()
@@ -13,9 +13,10 @@ pub fn one_answer()
     ensures tokens_or_fault { TokensOrFault }
 {}
 
-/// Tokens take bytes of the text, one after the other.
+/// Tokens take bytes of the text, one after the other, and are words and symbols of the dialect.
 pub fn token_spans()
     ensures tokens_are_spans { TokensAreSpans }
     ensures tokens_rise { TokensRise }
+    ensures tokens_are_of_dialect { TokensAreOfDialect }
     ensures tokens_are_few { TokensAreFew }
 {}

@@ -4,7 +4,8 @@ use Rattle.std.specs.List.{list_all}
 use Rattle.dj_line.specs.declared.line.ThinError.{ThinError}
 use Rattle.dj_line.specs.declared.line.ThinError.TheVariants.{NotThin, NoMemory}
 use Rattle.dj_line.specs.declared.source.FieldDecl.{FieldDecl}
-use Rattle.dj_line.specs.View.{Refuses, text_of, field_of}
+use Rattle.dj_line.specs.View.{Refuses, field_of}
+use Rattle.dj_line.specs.Words.{text_of}
 use Rattle.dj_line.proofs.Texts.{all_fails}
 
 -- along a list

@@ -12,7 +12,8 @@ use Rattle.dj_line.specs.declared.source.ClassDecl.{ClassDecl}
 use Rattle.dj_line.specs.declared.source.DeltaDecl.{DeltaDecl}
 use Rattle.dj_line.specs.declared.source.ItemDecl.{ItemDecl}
 use Rattle.dj_line.specs.Source.{Delta}
-use Rattle.dj_line.specs.View.{Refuses, Accepts, text_of, class_of, delta_of, item_of}
+use Rattle.dj_line.specs.View.{Refuses, Accepts, class_of, delta_of, item_of}
+use Rattle.dj_line.specs.Words.{text_of}
 use Rattle.dj_line.specs.Thin.{Added, Placed}
 use Rattle.dj_line.proofs.Steps.{chosen, some_is}
 

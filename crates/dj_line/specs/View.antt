@@ -9,7 +9,7 @@ use Rattle.dj_line.specs.declared.source.ClassDecl.{ClassDecl}
 use Rattle.dj_line.specs.declared.source.DeltaDecl.{DeltaDecl}
 use Rattle.dj_line.specs.declared.source.ItemDecl.{ItemDecl}
 use Rattle.dj_line.specs.declared.source.SourceDecl.{SourceDecl}
-use Rattle.dj_line.specs.Words.{Terminal, terminals, text_of as token_text}
+use Rattle.dj_line.specs.Words.{Terminal, terminals, text_of}
 use Rattle.dj_line.specs.Source.{Field, Class, Delta, Item, Source}
 use Rattle.std.specs.String.{string_bytes}
 use Rattle.std.specs.Prelude.{String, Bool, true, false, Result, Ok, Err, ◌≡◌}
@@ -20,9 +20,6 @@ use Rattle.dj_line.specs.declared.line.ThinLine.{ThinLine}
 use Rattle.dj_line.specs.declared.line.ThinError.{ThinError}
 use Rattle.dj_line.specs.declared.line.ThinError.TheVariants.{NotThin, NoMemory}
 use Rattle.dj_line.specs.Thin.{Added, Placed, Line}
-
-abbrev pub text_of : List ℕ → Token → List ℕ
-text_of bytes t = token_text bytes t
 
 abbrev pub name_of : List ℕ → Option Token → Option (List ℕ)
 name_of bytes t = option_map (text_of bytes) t

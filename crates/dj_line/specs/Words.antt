@@ -1,19 +1,20 @@
 -- The terminals of the grammar, and which words are names.
-use Rattle.std.specs.Prelude.{◌≡◌, ℕ, ◌-◌, Bool, false, List, [], ◌∷◌, map, take, drop, codes}
+use Rattle.std.specs.Prelude.{◌≡◌, ℕ, Bool, false, List, [], ◌∷◌, map, codes}
 use Rattle.std.specs.List.{list_any}
 use Rattle.std.specs.Str.{bytes_eq}
 use Rattle.dj_lexer.specs.declared.token.TokenKind.{TokenKind}
 use Rattle.dj_lexer.specs.declared.token.TokenKind.TheVariants.{Word, Symbol}
 use Rattle.dj_lexer.specs.declared.token.Token.{Token}
+use Rattle.dj_lexer.specs.Symbols.{symbol_of}
 
 -- a word or a symbol, with its text
 pub data Terminal : Type 0 where
   word : List ℕ → Terminal
   symbol : List ℕ → Terminal
 
--- the text of a token
+-- the text of a token, that of its symbol
 abbrev pub text_of : List ℕ → Token → List ℕ
-text_of bytes t = take (t.to - t.from) (drop t.from bytes)
+text_of bytes t = (symbol_of bytes t).text
 
 abbrev pub terminal_of : TokenKind → List ℕ → Terminal
 terminal_of Word text = word text

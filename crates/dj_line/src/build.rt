@@ -3,7 +3,8 @@
 ghost use Rattle.std.specs.Prelude.{◌≡◌, map, IfOk};
 ghost use Rattle.std.specs.Str.{IsAscii};
 ghost use Rattle.std.specs.String.{string_bytes};
-ghost use Rattle.dj_line.specs.View.{Accepts, text_of as token_text, field_of, class_of, item_of, source_of, texts_in, thin_field_of, thin_class_of, thin_delta_of};
+ghost use Rattle.dj_line.specs.View.{Accepts, field_of, class_of, item_of, source_of, texts_in, thin_field_of, thin_class_of, thin_delta_of};
+ghost use Rattle.dj_line.specs.Words.{text_of as token_text};
 ghost use Rattle.dj_line.specs.Thin.{added, placed, is_placed, delta_names};
 ghost use Rattle.std.specs.List.{list_all};
 

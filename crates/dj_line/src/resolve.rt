@@ -2,7 +2,8 @@
 
 ghost use Rattle.std.specs.Prelude.{◌≡◌, ◌≤◌, ◌++◌, false, map, length, IfOk, OnOk, IsErrOf, IsTrue};
 ghost use Rattle.std.specs.List.{list_all, flat_map};
-ghost use Rattle.dj_line.specs.View.{Accepts, text_of as token_text, name_of, item_of, field_of, parent_of, class_of, delta_of, source_of, texts_in};
+ghost use Rattle.dj_line.specs.View.{Accepts, name_of, item_of, field_of, parent_of, class_of, delta_of, source_of, texts_in};
+ghost use Rattle.dj_line.specs.Words.{text_of as token_text};
 ghost use Rattle.dj_line.specs.Thin.{are_distinct, contains, is_object as is_object_text, is_known, is_plain, has_plain_type, place_of, IsThin};
 ghost use Rattle.dj_line.specs.declared.line.ThinError.TheVariants.{NotThin};
 

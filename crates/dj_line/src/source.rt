@@ -1,9 +1,9 @@
 //! A source that only adds classes, read from its tokens.
 
-ghost use Rattle.dj_line.specs.Words.{terminals};
+ghost use Rattle.dj_line.specs.Words.{terminals, text_of};
 ghost use Rattle.dj_line.specs.Reading.{Gives, formula_at, when_at, item_at, field_at, parent_at, class_at, delta_at, head_at, part_at, names_at, features_at, valid_at, items_at, fields_at, classes_at, deltas_at, source_of as whole_source};
 ghost use Rattle.dj_line.specs.Reading.{next_at};
-ghost use Rattle.dj_line.specs.View.{text_of, name_of, item_of, field_of, parent_of, class_of, delta_of, head_of, source_of, all_of, taken};
+ghost use Rattle.dj_line.specs.View.{name_of, item_of, field_of, parent_of, class_of, delta_of, head_of, source_of, all_of, taken};
 
 use crate::line::ThinError;
 use crate::words::{name, next_is, next_is_name, skip};

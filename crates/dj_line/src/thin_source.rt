@@ -99,8 +99,7 @@ fn line_of(alloc: Global, bytes: &[u8], source: &SourceDecl) -> Result<ThinLine,
 }
 
 /// The thin line that the bytes stand for: a source of the line dialect that only adds classes without methods, in
-/// one part, so that each of its configurations gives a well typed program (`IsThinLine` says exactly which). The
-/// answer is `NotThin` exactly where the bytes stand for none.
+/// one part (`IsThinLine` says exactly which). The answer is `NotThin` exactly where the bytes stand for none.
 pub fn thin(alloc: Global, bytes: &[u8]) -> Result<ThinLine, ThinError>
     requires { length bytes.now ≤ MAX_LENGTH }
     ensures found { IfOk result (λ l. IsThinLine bytes.now (thin_line_of l)) }

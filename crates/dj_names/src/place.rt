@@ -1,6 +1,6 @@
 //! Places of byte offsets, for messages.
-ghost use Rattle.std.specs.Prelude.{◌≡◌, not, ◌<◌, ◌≤◌, length};
-ghost use Rattle.dj_names.specs.Place.{line_at, column_at, ends_line as is_line_end, continues_character};
+ghost use Rattle.std.specs.Prelude.{◌≡◌, not, ◌+◌, ◌<◌, ◌≤◌, length};
+ghost use Rattle.dj_names.specs.Place.{line_ends_before, IsColumn, ends_line as is_line_end, continues_character};
 
 /// A line and a column, each counted from 1. A line ends at LF, CR or CR LF, and a column counts characters.
 #[derive(Clone, Copy, Debug, PartialEq, Eq)]
@@ -15,8 +15,8 @@ pub struct Place {
 pub fn place_of(bytes: &[u8], offset: u32) -> Place
     requires within { offset ≤ length bytes.now }
     requires short { length bytes.now ≤ 4194305 }
-    ensures line { result.line ≡ line_at bytes.now offset }
-    ensures column { result.column ≡ column_at bytes.now offset }
+    ensures line { result.line ≡ line_ends_before bytes.now offset + 1 }
+    ensures column { IsColumn bytes.now offset result.column }
 {
     let mut line = 1;
     let mut column = 1;

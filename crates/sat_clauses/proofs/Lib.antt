@@ -1,3 +1,4 @@
 pub mod SetLemmas
 pub mod SoundLemmas
 pub mod DerivationLemmas
+pub mod ListLemmas

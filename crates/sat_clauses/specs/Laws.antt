@@ -2,7 +2,7 @@
 use Rattle.std.specs.Prelude.{◌≡◌, Bool, not, ◌&&◌, ◌||◌, List, IsTrue}
 use Rattle.sat_clauses.specs.declared.literal.Lit.{Lit}
 use Rattle.sat_clauses.specs.Literals.{same_literal, opposite}
-use Rattle.sat_clauses.specs.ClauseLists.{has, holds, resolvent}
+use Rattle.sat_clauses.specs.ClauseLists.{has, holds, distinct_literals, resolvent}
 use Rattle.sat_clauses.specs.Derivations.{Resolution, Derives}
 
 -- clauses from which the empty clause is derived are held by no assignment
@@ -13,3 +13,7 @@ ResolutionIsSound = (clauses : List (List Lit)) (steps : List Resolution) (value
 abbrev pub ResolventsAreSets : Type 0
 ResolventsAreSets = (pivot : Lit) (clause other : List Lit) (lit : Lit)
     → has (resolvent pivot clause other) lit ≡ ((has clause lit && not (same_literal pivot lit)) || (has other lit && not (same_literal (opposite pivot) lit)))
+
+-- a list of literals, each once, has the same literals
+abbrev pub DistinctLiteralsAreSets : Type 0
+DistinctLiteralsAreSets = (lits : List Lit) (lit : Lit) → has (distinct_literals lits) lit ≡ has lits lit

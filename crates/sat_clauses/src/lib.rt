@@ -10,5 +10,5 @@ mod tests;
 
 pub use clauses::Clauses;
 pub use derivation::{Derivation, Link, Step};
-pub use laws::{resolution_is_sound, resolvents_are_sets};
+pub use laws::{distinct_literals_are_sets, resolution_is_sound, resolvents_are_sets};
 pub use literal::{Assignment, Lit};

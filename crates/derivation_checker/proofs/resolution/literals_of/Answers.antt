@@ -3,7 +3,7 @@ use Rattle.std.proofs.lemmas.List.{take_more, take_all}
 use Rattle.sat_clauses.specs.declared.literal.Lit.{Lit}
 use Rattle.sat_clauses.specs.ClauseLists.{with_literal, joined}
 use Rattle.sat_clauses.proofs.SetLemmas.{joined-push}
-use Rattle.derivation_checker.proofs.ListLemmas.{joined_distinct}
+use Rattle.sat_clauses.proofs.ListLemmas.{joined_distinct}
 use Rattle.derivation_checker.proofs.resolution.literals_of.Goals as goal
 
 pub loop-lit-preserved : goal.loop-lit-preserved

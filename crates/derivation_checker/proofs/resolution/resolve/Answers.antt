@@ -5,7 +5,7 @@ use Rattle.std.proofs.lemmas.List.{take_all}
 use Rattle.sat_clauses.specs.declared.literal.Lit.{Lit}
 use Rattle.sat_clauses.specs.Literals.{same_literal, opposite}
 use Rattle.sat_clauses.specs.ClauseLists.{has, with_literal, without, joined}
-use Rattle.derivation_checker.proofs.ListLemmas.{has_either_way, removed, joined_with, joined_without}
+use Rattle.sat_clauses.proofs.ListLemmas.{has_either_way, removed, joined_with, joined_without}
 use Rattle.derivation_checker.proofs.resolution.resolve.Goals as goal
 use Rattle.derivation_checker.proofs.resolution.resolve.Goals.{then-ne+in_ok-insert, else-ne}
 

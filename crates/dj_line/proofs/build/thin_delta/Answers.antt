@@ -6,7 +6,8 @@ use Rattle.std.specs.Str.{bytes_eq}
 use Rattle.std.proofs.Math.ListN.{get_or-map}
 use Rattle.dj_line.specs.declared.line.ThinError.TheVariants.{NotThin}
 use Rattle.dj_line.specs.Source.{Delta}
-use Rattle.dj_line.specs.View.{text_of, name_of, class_of, delta_of, source_of, texts_in, thin_class_of}
+use Rattle.dj_line.specs.View.{name_of, class_of, delta_of, source_of, texts_in, thin_class_of}
+use Rattle.dj_line.specs.Words.{text_of}
 use Rattle.dj_line.specs.Thin.{added, place_of, is_known, contains, delta_names, classes_named}
 use Rattle.dj_line.proofs.Texts.{keys_any, keys_position}
 use Rattle.dj_line.proofs.Placing.{found_named, right_refuses, both, same_placed}

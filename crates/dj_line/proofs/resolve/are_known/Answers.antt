@@ -1,5 +1,6 @@
 use Rattle.std.proofs.Common.{◌≡◌, true, false, sym, ◌∙◌, arith}
-use Rattle.dj_line.specs.View.{text_of, texts_in}
+use Rattle.dj_line.specs.View.{texts_in}
+use Rattle.dj_line.specs.Words.{text_of}
 use Rattle.dj_line.specs.Thin.{contains}
 use Rattle.dj_line.proofs.Texts.{keys_any, all_more, all_fails, all_done}
 use Rattle.dj_line.proofs.resolve.are_known.Goals as goal

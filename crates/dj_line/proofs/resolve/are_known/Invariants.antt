@@ -1,6 +1,7 @@
 use Rattle.std.proofs.Common.{◌≡◌, map, take, true}
 use Rattle.std.specs.List.{list_all}
-use Rattle.dj_line.specs.View.{text_of, texts_in}
+use Rattle.dj_line.specs.View.{texts_in}
+use Rattle.dj_line.specs.Words.{text_of}
 use Rattle.dj_line.specs.Thin.{contains}
 use Rattle.dj_line.proofs.resolve.are_known.Given as goal
 

@@ -1,7 +1,8 @@
 use Rattle.std.proofs.Common.{◌≡◌, true, false, not, List, ℕ, map, sym, ap, subst, ◌∙◌}
 use Rattle.std.specs.List.{list_all}
 use Rattle.std.proofs.lemmas.Result.{err_from_is_err_and}
-use Rattle.dj_line.specs.View.{text_of, field_of, class_of, Refuses}
+use Rattle.dj_line.specs.View.{field_of, class_of, Refuses}
+use Rattle.dj_line.specs.Words.{text_of}
 use Rattle.dj_line.specs.Thin.{is_plain, is_object, are_distinct, field_names, has_plain_type}
 use Rattle.dj_line.proofs.Accepting.{third_refuses, all_four, names_of_fields}
 use Rattle.dj_line.proofs.resolve.check_class.Goals as goal

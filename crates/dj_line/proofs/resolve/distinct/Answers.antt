@@ -1,4 +1,4 @@
-use Rattle.dj_line.specs.View.{text_of}
+use Rattle.dj_line.specs.Words.{text_of}
 use Rattle.dj_line.proofs.Texts.{grown_texts, twice_added}
 use Rattle.dj_line.proofs.resolve.distinct.Goals as goal
 

@@ -1,5 +1,6 @@
 use Rattle.std.proofs.Common.{◌≡◌, map, take, true}
-use Rattle.dj_line.specs.View.{text_of, texts_in}
+use Rattle.dj_line.specs.View.{texts_in}
+use Rattle.dj_line.specs.Words.{text_of}
 use Rattle.dj_line.specs.Thin.{are_distinct}
 use Rattle.dj_line.proofs.resolve.distinct.Given as goal
 

@@ -1,6 +1,7 @@
 use Rattle.std.proofs.Common.{◌≡◌, Bool, true, false, not, ◌||◌, refl, sym, ◌∙◌}
 use Rattle.std.specs.Str.{bytes_eq}
-use Rattle.dj_line.specs.View.{text_of, field_of}
+use Rattle.dj_line.specs.View.{field_of}
+use Rattle.dj_line.specs.Words.{text_of}
 use Rattle.dj_line.specs.Thin.{has_plain_type, is_object}
 use Rattle.dj_line.proofs.Texts.{all_fails}
 use Rattle.dj_line.proofs.resolve.have_plain_types.Goals as goal

@@ -3,9 +3,9 @@ use Rattle.std.specs.Prelude.{codes}
 use Rattle.std.proofs.lemmas.Result.{err_from_is_err_and}
 use Rattle.std.proofs.lemmas.List.{map_push}
 use Rattle.dj_lexer.specs.declared.token.TokenKind.TheVariants.{Symbol}
-use Rattle.dj_line.specs.Words.{terminals}
+use Rattle.dj_line.specs.Words.{terminals, text_of}
 use Rattle.dj_line.specs.Reading.{next_is, next_is_name, next_at, names_at}
-use Rattle.dj_line.specs.View.{text_of, taken}
+use Rattle.dj_line.specs.View.{taken}
 use Rattle.dj_line.proofs.Repetition.{goes_on, ends, stops, fewer_tokens}
 use Rattle.dj_line.proofs.Again.{next_shrinks, begun, begun_not}
 use Rattle.dj_line.proofs.source.feature_names.Goals as goal

@@ -1,7 +1,6 @@
 use Rattle.std.proofs.Common.{◌≡◌, length, map}
-use Rattle.dj_line.specs.Words.{terminals}
+use Rattle.dj_line.specs.Words.{terminals, text_of}
 use Rattle.dj_line.specs.Reading.{nexts_at, names_at}
-use Rattle.dj_line.specs.View.{text_of}
 use Rattle.dj_line.proofs.Repetition.{with_front}
 use Rattle.dj_line.proofs.source.feature_names.Given as goal
 

@@ -1,7 +1,8 @@
 use Rattle.std.proofs.Common.{◌≡◌, true, List, ℕ, map, ap, subst, ◌∙◌}
 use Rattle.std.specs.List.{list_all, flat_map}
 use Rattle.std.proofs.lemmas.Result.{err_from_is_err_and}
-use Rattle.dj_line.specs.View.{text_of, source_of, Refuses}
+use Rattle.dj_line.specs.View.{source_of, Refuses}
+use Rattle.dj_line.specs.Words.{text_of}
 use Rattle.dj_line.specs.Thin.{is_plain, are_distinct, class_names}
 use Rattle.dj_line.proofs.Placing.{names_of_all, left_refuses, right_accepts}
 use Rattle.dj_line.proofs.thin_source.check_added.Goals as goal

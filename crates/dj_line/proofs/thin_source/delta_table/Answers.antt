@@ -2,7 +2,8 @@ use Rattle.std.proofs.Common.{◌≡◌, true, ◌&&◌, List, ℕ, map, sym, ap
 use Rattle.std.specs.List.{list_all}
 use Rattle.std.proofs.lemmas.Result.{err_from_is_err_and}
 use Rattle.dj_line.specs.declared.line.ThinError.TheVariants.{NotThin}
-use Rattle.dj_line.specs.View.{text_of, source_of, Refuses}
+use Rattle.dj_line.specs.View.{source_of, Refuses}
+use Rattle.dj_line.specs.Words.{text_of}
 use Rattle.dj_line.specs.Thin.{are_distinct, contains, delta_names, item_names}
 use Rattle.dj_line.proofs.Placing.{names_of_deltas, names_of_items, left_refuses, right_refuses, both}
 use Rattle.dj_line.proofs.thin_source.delta_table.Goals as goal

@@ -1,7 +1,8 @@
 use Rattle.std.proofs.Common.{◌≡◌, map, ap, ◌∙◌, arith}
 use Rattle.std.proofs.lemmas.List.{length-map}
 use Rattle.std.proofs.lemmas.Result.{err_from_is_err_and}
-use Rattle.dj_line.specs.View.{text_of, source_of}
+use Rattle.dj_line.specs.View.{source_of}
+use Rattle.dj_line.specs.Words.{text_of}
 use Rattle.dj_line.specs.Thin.{place_of, is_placed, is_known, are_distinct, are_paired, adds_plain_classes}
 use Rattle.std.specs.List.{list_all}
 use Rattle.std.specs.String.{string_bytes}

@@ -1,0 +1,5 @@
+pub mod Pieces
+pub mod Members
+pub mod Operations
+pub mod Sources
+pub mod OneReading

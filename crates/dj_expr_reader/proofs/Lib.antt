@@ -1,0 +1,11 @@
+pub mod Frames
+pub mod Begins
+pub mod Complete
+pub mod Sound
+pub mod Moves
+pub mod Beginnings
+pub mod Reading
+pub mod OneExpression
+pub mod TakenOff
+pub mod Counts
+pub mod Turns

@@ -1,0 +1,4 @@
+pub mod Marks
+pub mod Machine
+pub mod Laws
+pub mod View

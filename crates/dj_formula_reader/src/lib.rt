@@ -1,0 +1,13 @@
+//! Reads formulas, token by token, however deep they nest.
+#![tactic(auto)]
+
+mod formula;
+mod laws;
+mod machine;
+mod steps;
+#[cfg(test)]
+mod tests;
+
+pub use formula::read_formula;
+pub use laws::{formulas_are_read, one_formula};
+pub use machine::FormulaMark;

@@ -1,0 +1,6 @@
+pub mod Symbols
+pub mod Laws
+pub mod Repeating
+pub mod ToEnd
+pub mod Pieces
+pub mod Loops

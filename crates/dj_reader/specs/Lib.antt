@@ -1,0 +1,5 @@
+pub mod Terminals
+pub mod Reading
+pub mod Answering
+pub mod Combining
+pub mod Stacks

@@ -1,0 +1,13 @@
+pub mod Arities
+pub mod Trees
+pub mod Plain
+pub mod WellFormed
+pub mod Words
+pub mod Repeats
+pub mod FormulaGrammar
+pub mod ExprGrammar
+pub mod ClassGrammar
+pub mod LineGrammar
+pub mod Spells
+pub mod Laws
+pub mod Examples

@@ -1,0 +1,8 @@
+pub mod Facts
+mod ApartLemmas
+mod PathLemmas
+mod RingLemmas
+mod WalkLemmas
+mod LinkLemmas
+mod WatchLemmas
+mod MoveLemmas

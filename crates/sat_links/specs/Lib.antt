@@ -1,0 +1,4 @@
+pub mod Queues
+pub mod Rings
+pub mod Watches
+pub mod Links

@@ -1,0 +1,13 @@
+pub mod StoreLemmas
+pub mod AlongLemmas
+pub mod EntryLemmas
+pub mod TrailLemmas
+pub mod ClauseLemmas
+pub mod ExtendLemmas
+pub mod QueueLemmas
+pub mod LevelLemmas
+pub mod LessonLemmas
+pub mod MeasureLemmas
+pub mod SearchLemmas
+pub mod SolutionLemmas
+pub mod CountLemmas

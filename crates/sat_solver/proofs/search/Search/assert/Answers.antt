@@ -1,0 +1,66 @@
+use Rattle.std.proofs.Common.{◌≡◌, ◌≤◌, ◌<◌, ◌++◌, ◌∷◌, [], Some, take, length, slice_get, refl, sym, ap, subst, ◌∙◌, arith}
+use Rattle.std.proofs.lemmas.List.{length-take}
+use Rattle.sat_links.specs.Queues.{IsQueue}
+use Rattle.sat_solver.specs.declared.entry.Entry.{Entry}
+use Rattle.sat_solver.specs.Stores.{greatest_var}
+use Rattle.sat_solver.specs.Entries.{IsForced, AllReasoned, Forces, decisions, up_to}
+use Rattle.sat_solver.specs.Trails.{TrailState}
+use Rattle.sat_solver.specs.Measures.{weight}
+use Rattle.sat_solver.proofs.AlongLemmas.{at_end}
+use Rattle.sat_solver.proofs.LevelLemmas.{false_within}
+use Rattle.sat_solver.proofs.MeasureLemmas.{jump_farther}
+use Rattle.sat_solver.proofs.SearchLemmas.{reasons_later, reasons_push, reasons_take, false_vars, greatest_later}
+use Rattle.sat_solver.proofs.search.Search.assert.Goals as goal
+
+pub force-requires-clause-within : goal.force-requires-clause-within
+force-requires-clause-within c =
+    let old = c.args.self.now.trail in
+    let lit = c.args.assertion.lit in
+    let within = false_within old.vars old.entries c.requires.search.trail.within lit (c.requires.falsified lit c.requires.asserts.forces.there) in
+    (within.0, subst (λ n. lit.var ≤ n) (sym c.jump_back.ensures.vars) within.1)
+
+-- the entry of the asserted literal
+abbrev asserted : goal.After-force → Entry
+asserted c = record { lit = c.args.assertion.lit; level = c.jump_back.new.self.level; reason = Some c.count-place.result }
+
+entries_are : (c : goal.After-force) → c.force.new.self.entries ≡ c.jump_back.new.self.entries ++ asserted c ∷ []
+entries_are c = ap (λ (t : TrailState). t.entries) c.force.ensures.forced
+
+vars_are : (c : goal.After-force) → c.force.new.self.vars ≡ c.args.self.now.trail.vars
+vars_are c = ap (λ (t : TrailState). t.vars) c.force.ensures.forced ∙ c.jump_back.ensures.vars
+
+pub returns-clause-search : goal.returns-clause-search
+returns-clause-search c =
+    let old = c.args.self.now in
+    let clause = c.args.clause.items in
+    let clauses = old.store.clauses ++ clause ∷ [] in
+    let jumped = c.jump_back.new.self.entries in
+    let now = c.force.new.self in
+    let kept : c.push.new.self.clauses ≡ clauses = c.in_ok-push.ensures.ok in
+    let before : AllReasoned clauses jumped = subst (AllReasoned clauses) (sym c.jump_back.ensures.prefix) (reasons_take clauses (length jumped) old.trail.entries (reasons_later old.store.clauses clause old.trail.entries c.requires.search.reasons)) in
+    let there : slice_get clauses c.count-place.result ≡ Some clause = ap (slice_get clauses) c.count-place.ensures ∙ at_end old.store.clauses clause in
+    let forces : Forces jumped clause c.args.assertion.lit = subst (λ es. Forces es clause c.args.assertion.lit) (sym c.jump_back.ensures.entries) c.requires.asserts.forces in
+    let forced : IsForced clauses jumped (asserted c) = record { place = c.count-place.result; clause = clause; reason = refl; found = there; forces = forces } in
+    let reasons : AllReasoned clauses (jumped ++ asserted c ∷ []) = reasons_push clauses jumped (asserted c) before (λ _. forced) in
+    let within = false_vars old.trail.vars old.trail.entries c.requires.search.trail.within clause c.requires.falsified in
+    record {
+      trail = c.force.ensures.trail;
+      reasons = subst (λ cs. AllReasoned cs now.entries) (sym kept) (subst (AllReasoned clauses) (sym (entries_are c)) reasons);
+      paired = vars_are c ∙ greatest_later old.store.clauses clause old.trail.vars c.requires.search.paired within ∙ ap greatest_var (sym kept);
+      queue = subst (λ n. IsQueue n old.queue) (sym (vars_are c)) c.requires.search.queue;
+    }
+
+pub returns-clause-farther : goal.returns-clause-farther
+returns-clause-farther c =
+    let old = c.args.self.now.trail in
+    let level = c.args.assertion.level in
+    let jumped = c.jump_back.new.self.entries in
+    let n = length jumped in
+    let up = up_to level old.entries in
+    let first : up ≡ take n old.entries = sym c.jump_back.ensures.entries ∙ c.jump_back.ensures.prefix in
+    let short : n ≤ length old.entries = omega (arith, ap length c.jump_back.ensures.prefix, length-take n old.entries) in
+    let here : level ≡ decisions (take n old.entries) = sym c.jump_back.ensures.level ∙ c.jump_back.ensures.trail.level ∙ ap decisions c.jump_back.ensures.prefix in
+    let below : level < decisions old.entries = omega (arith, c.requires.asserts.below, c.requires.search.trail.level) in
+    let farther : weight old.vars old.entries < weight old.vars (up ++ asserted c ∷ []) = jump_farther old.vars old.entries c.requires.search.trail.levels level n (asserted c) first short here below c.requires.search.trail.small refl in
+    let same : up ++ asserted c ∷ [] ≡ c.force.new.self.entries = ap (λ es. es ++ asserted c ∷ []) (sym c.jump_back.ensures.entries) ∙ sym (entries_are c) in
+    subst (λ n. weight old.vars old.entries < weight n c.force.new.self.entries) (sym (vars_are c)) (subst (λ es. weight old.vars old.entries < weight old.vars es) same farther)

@@ -1,0 +1,26 @@
+-- What a conflict teaches.
+use Rattle.std.specs.Prelude.{◌≡◌, ℕ, ◌<◌, List, [], MatchOption}
+use Rattle.sat_clauses.specs.declared.literal.Lit.{Lit}
+use Rattle.sat_clauses.specs.ClauseLists.{without}
+use Rattle.sat_clauses.specs.Derivations.{Resolution, Makes}
+use Rattle.sat_solver.specs.declared.lesson.Lesson.{Lesson}
+use Rattle.sat_solver.specs.Entries.{IsFreeIn, IsFalseClause, Forces, up_to}
+use Rattle.sat_solver.specs.Trails.{TrailState}
+
+-- a level below the present one is the least at which the other literals of the clause are all false, and there the
+-- literal is free: the clause forces it
+pub record Asserts (trail : TrailState) (clause : List Lit) (lit : Lit) (level : ℕ) : Type 0 where
+  pub below : level < trail.level
+  pub free : IsFreeIn (up_to level trail.entries) lit
+  pub forces : Forces (up_to level trail.entries) clause lit
+  pub least : (lower : ℕ) → lower < level → ¬ IsFalseClause (up_to lower trail.entries) (without clause lit)
+
+-- the step of a lesson that begins with the clause of a number
+abbrev pub step_of : ℕ → Lesson → Resolution
+step_of first lesson = record { first = first; links = lesson.chain.items }
+
+-- a lesson has a clause that its chain makes, and its clause is empty or forces the asserted literal
+pub record Teaches (clauses : List (List Lit)) (trail : TrailState) (conflict : ℕ) (lesson : Lesson) : Type 0 where
+  pub makes : Makes clauses (step_of conflict lesson) lesson.clause.items
+  pub falsified : IsFalseClause trail.entries lesson.clause.items
+  pub asserted : MatchOption lesson.asserted (lesson.clause.items ≡ []) (λ assertion. Asserts trail lesson.clause.items assertion.lit assertion.level)

@@ -1,0 +1,19 @@
+//! A solver of clauses: it finds an assignment that holds them, or derives the empty clause from them.
+#![tactic(auto)]
+
+mod analysis;
+mod entry;
+mod laws;
+mod lesson;
+mod propagate;
+mod search;
+mod solver;
+mod store;
+#[cfg(test)]
+mod tests;
+mod trail;
+
+pub use laws::weight_is_lexicographic;
+pub use solver::{Answer, solve};
+pub use store::Store;
+pub use trail::Trail;

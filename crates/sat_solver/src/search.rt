@@ -1,0 +1,163 @@
+//! The state of a search.
+ghost use Rattle.std.specs.Prelude.{◌≡◌, ◌++◌, ◌∷◌, [], ◌≤◌, ◌<◌, length, All, OnOk, IfOk, IfSome, IfNone, IsSome, IsTrue, false};
+ghost use Rattle.sat_clauses.specs.ClauseLists.{IsClause};
+ghost use Rattle.sat_links.specs.Queues.{IsQueue};
+ghost use Rattle.sat_solver.specs.Stores.{greatest_var};
+ghost use Rattle.sat_solver.specs.Entries.{IsConflict, IsFalseClause, AllSettled, values_of};
+ghost use Rattle.sat_solver.specs.Lessons.{Asserts};
+
+use crate::analysis::analyze;
+use crate::lesson::{Assertion, Lesson};
+use crate::store::Store;
+use crate::trail::Trail;
+use sat_clauses::{Clauses, Derivation, Lit, Step};
+use sat_links::DecisionQueue;
+use std::alloc::{AllocError as NoMemory, Global};
+
+/// What a turn of a search comes to: it goes on, all variables have values and no clause is false, or the empty clause
+/// was derived.
+#[derive(Clone, Copy)]
+pub(crate) enum Turn {
+    GoesOn,
+    Holds,
+    Derives,
+}
+
+/// The clauses, the trail, the order of decisions, and the steps that made the learnt clauses.
+#[derive(Drop)]
+pub(crate) struct Search {
+    pub(crate) store: Store,
+    pub(crate) trail: Trail,
+    pub(crate) queue: DecisionQueue,
+    pub(crate) steps: Vec<Step>,
+}
+
+impl Search {
+    ghost use Rattle.sat_solver.specs.Searches.{IsSearch, LearnsOrEnds, TurnIs, steps_in, weight_of};
+
+    /// The search among clauses, which begins with no values.
+    pub(crate) fn new(alloc: Global, clauses: &Clauses) -> Result<Search, NoMemory>
+        ensures search { IfOk result IsSearch }
+        ensures clauses { IfOk result (λ _. All IsClause clauses.now) }
+        ensures store { IfOk result (λ search. search.store.clauses ≡ clauses.now) }
+        ensures vars { IfOk result (λ search. search.trail.vars ≡ greatest_var clauses.now) }
+        ensures steps { IfOk result (λ search. steps_in search ≡ []) }
+    {
+        let store = Store::new(alloc, clauses)?;
+        let vars = store.vars();
+        Ok(Search {
+            trail: Trail::new(alloc, vars)?,
+            queue: DecisionQueue::new(alloc, vars)?,
+            store,
+            steps: Vec::new(alloc),
+        })
+    }
+
+    /// Propagates, and then decides or learns. At each turn that goes on, the list of literal counts per level rises in
+    /// lexicographic order.
+    pub(crate) fn turn(&mut self, alloc: Global) -> Result<Turn, NoMemory>
+        requires { IsSearch self.old }
+        ensures { IfOk result (TurnIs self.old self.new) }
+    {
+        let Some(conflict) = self.propagate() else {
+            return if self.decide() {
+                Ok(Turn::GoesOn)
+            } else {
+                Ok(Turn::Holds)
+            };
+        };
+        if self.learn(alloc, conflict)? {
+            Ok(Turn::GoesOn)
+        } else {
+            Ok(Turn::Derives)
+        }
+    }
+
+    /// Propagates, and gives the place of a false clause.
+    fn propagate(&mut self) -> Option<u64>
+        requires { IsSearch self.old }
+        ensures search { IsSearch self.new }
+        ensures settled { IfNone result (AllSettled self.new.trail.entries self.old.store.clauses) }
+        ensures conflict { IfSome result (IsConflict self.new.trail.entries self.old.store.clauses) }
+        ensures farther { weight_of self.old ≤ weight_of self.new }
+        ensures vars { self.new.trail.vars ≡ self.old.trail.vars }
+        ensures clauses { self.new.store.clauses ≡ self.old.store.clauses }
+        ensures steps { self.new.steps ≡ self.old.steps }
+    {
+        self.trail.propagate(&mut self.store)
+    }
+
+    /// Decides a variable. The answer is `false` where all have values.
+    fn decide(&mut self) -> bool
+        requires { IsSearch self.old }
+        ensures search { IsSearch self.new }
+        ensures farther { IsTrue result → weight_of self.old < weight_of self.new }
+        ensures valued { result ≡ false → All IsSome (values_of self.old.trail.vars self.old.trail.entries) }
+        ensures same { result ≡ false → self.new ≡ self.old }
+        ensures vars { self.new.trail.vars ≡ self.old.trail.vars }
+        ensures clauses { self.new.store.clauses ≡ self.old.store.clauses }
+        ensures steps { self.new.steps ≡ self.old.steps }
+    {
+        self.trail.decide(&self.queue).is_some()
+    }
+
+    /// Learns from the false clause at a place. The answer is `false` where the empty clause was derived.
+    fn learn(&mut self, alloc: Global, conflict: u64) -> Result<bool, NoMemory>
+        requires search { IsSearch self.old }
+        requires conflict { IsConflict self.old.trail.entries self.old.store.clauses conflict }
+        ensures { IfOk result (LearnsOrEnds self.old self.new) }
+    {
+        let Lesson {
+            clause,
+            chain,
+            asserted,
+        } = analyze(alloc, &self.trail, &self.store, conflict)?;
+        self.steps.push(Step {
+            first: conflict,
+            chain,
+        })?;
+        let Some(assertion) = asserted else {
+            return Ok(false);
+        };
+        postpone(&mut self.queue, clause.as_slice());
+        self.assert(clause, assertion)?;
+        Ok(true)
+    }
+
+    /// The derivation that the steps make.
+    pub(crate) fn into_derivation(self) -> Derivation
+        ensures { result.steps ≡ self.steps }
+    {
+        Derivation { steps: self.steps }
+    }
+
+    /// Keeps a learnt clause, jumps back to the level at which it has one free literal, and makes that literal true.
+    fn assert(&mut self, clause: Vec<Lit>, assertion: Assertion) -> Result<(), NoMemory>
+        requires search { IsSearch self.old }
+        requires clause { IsClause clause.items }
+        requires falsified { IsFalseClause self.old.trail.entries clause.items }
+        requires asserts { Asserts self.old.trail clause.items assertion.lit assertion.level }
+        ensures search { OnOk result (IsSearch self.new) }
+        ensures store { OnOk result (self.new.store.clauses ≡ self.old.store.clauses ++ clause.items ∷ []) }
+        ensures farther { OnOk result (weight_of self.old < weight_of self.new) }
+        ensures vars { OnOk result (self.new.trail.vars ≡ self.old.trail.vars) }
+        ensures steps { OnOk result (self.new.steps ≡ self.old.steps) }
+    {
+        let place = self.store.count();
+        self.store.push(clause)?;
+        self.trail.jump_back(assertion.level);
+        self.trail.force(assertion.lit, place);
+        Ok(())
+    }
+}
+
+/// Moves the variables of a clause to the end of a queue, so that they are decided next.
+fn postpone(queue: &mut DecisionQueue, clause: &[Lit])
+    requires queue { IsQueue (length queue.old) queue.old }
+    requires within { All (λ lit. (1 ≤ lit.var) × (lit.var ≤ length queue.old)) clause.now }
+    ensures { IsQueue (length queue.old) queue.new }
+{
+    for lit in clause {
+        queue.move_to_end(lit.var);
+    }
+}
