@@ -1,5 +1,10 @@
 pub mod Pieces
-pub mod Members
-pub mod Operations
-pub mod Sources
+pub mod MemberReaders
+pub mod OperationReaders
+pub mod SourceReaders
 pub mod OneReading
+pub mod Fewer
+pub mod OperationLoops
+pub mod PieceLoops
+pub mod MemberLoops
+pub mod PartLoops

@@ -1,7 +1,7 @@
 use Rattle.dj_lexer.specs.declared.token.Dialect.TheVariants.{Line, Java}
 use Rattle.dj_formula_reader.specs.Laws.{formula_trees}
 use Rattle.dj_expr_reader.specs.Laws.{expr_trees}
-use Rattle.dj_declarations.proofs.Sources.{source_reads, java_reads}
+use Rattle.dj_declarations.proofs.SourceReaders.{source_reads, java_reads}
 use Rattle.dj_declarations.proofs.laws.sources_are_read.Goals as goal
 
 pub returns-clause-sources : goal.returns-clause-sources

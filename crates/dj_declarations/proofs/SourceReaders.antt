@@ -26,8 +26,8 @@ use Rattle.dj_reader.proofs.ToEnd.{to_end_reads}
 use Rattle.dj_reader.proofs.Pieces.{sign_reads, word_reads, name_reads, some_name, some_name_is, Listed, listing_reads, optionally_reads}
 use Rattle.dj_declarations.specs.Readings.{second, behind, item_from, item_reading, part_from, part_reading, title_from, title_reading, features_reading, valid_from, valid_reading, source_from, source_reading, delta_reading, java_reading}
 use Rattle.dj_declarations.proofs.Pieces.{moved, joins_any, behind_reads, BeginsOpen, up_to_brace, SpellsHead, head, head_reads, some_head}
-use Rattle.dj_declarations.proofs.Members.{class_reads}
-use Rattle.dj_declarations.proofs.Operations.{delta_reads}
+use Rattle.dj_declarations.proofs.MemberReaders.{class_reads}
+use Rattle.dj_declarations.proofs.OperationReaders.{delta_reads}
 
 -- ---- parts, given formulas
 
@@ -58,7 +58,7 @@ module _ (formula : List Symbol → Outcome Formula) (formula_is : IsReader Spel
       body_begins : (s rest : List Symbol) (at : ℕ) → SpellsSign (codes ";") s at → passes (is_the_word (codes "when")) (next (s ++ rest)) ≡ false
       body_begins s rest at (the_sign k) = refl
 
-  item_reads : IsReader SpellsItem Anything (item_reading formula)
+  pub item_reads : IsReader SpellsItem Anything (item_reading formula)
   item_reads = same_reads (record { to = to; from = from }) (mapped_reads item_from (both_reads (joins_any _ _ (left_out (the_sign 0))) name_reads condition_reads))
     where
       to : (s : List Symbol) (i : Item) → SpellsMapped item_from (SpellsBoth SpellsName (SpellsOptionally When (SpellsSign (codes ";")))) s i → SpellsItem s i
@@ -69,10 +69,10 @@ module _ (formula : List Symbol → Outcome Formula) (formula_is : IsReader Spel
       from s i (lines.item at x k lines.no_condition) = changed (one_and_other (the_name x k) (left_out (the_sign at)))
       from s i (lines.item at x k (lines.when w p)) = changed (one_and_other (the_name x k) (given (changed (one_and_other (the_word w) p)) (the_sign at)))
 
-  item_opens : BeginsOpen SpellsItem
+  pub item_opens : BeginsOpen SpellsItem
   item_opens s i (lines.item at x k p) = (named x, (_, refl, refl))
 
-  part_reads : IsReader SpellsPart Anything (part_reading formula)
+  pub part_reads : IsReader SpellsPart Anything (part_reading formula)
   part_reads =
       same_reads (record { to = to; from = from })
       (mapped_reads part_from
@@ -85,7 +85,7 @@ module _ (formula : List Symbol → Outcome Formula) (formula_is : IsReader Spel
       from : (s : List Symbol) (p : Part) → SpellsPart s p → SpellsMapped part_from (SpellsBoth (SpellsWord (codes "part")) (SpellsBoth SpellsName (SpellsHead (codes "after") SpellsItem))) s p
       from s p (lines.part at a b x i o many) = changed (one_and_other (the_word at) (one_and_other (the_name x i) (head a b o many)))
 
-  part_opens : BeginsOpen SpellsPart
+  pub part_opens : BeginsOpen SpellsPart
   part_opens s p (lines.part at a b x i o many) = (word (codes "part") at, (_, refl, refl))
 
   -- "valid" formula ";"

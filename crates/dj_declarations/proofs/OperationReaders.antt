@@ -21,7 +21,7 @@ use Rattle.dj_reader.proofs.Laws.{both_reads, mapped_reads, same_reads, either_r
 use Rattle.dj_reader.proofs.Pieces.{sign_reads, word_reads, name_reads, some_name, some_name_is}
 use Rattle.dj_declarations.specs.Readings.{second, behind, name_from, removed_reading, member_operation_reading, change_from, change_reading, operation_reading, delta_from, delta_reading}
 use Rattle.dj_declarations.proofs.Pieces.{joins_any, behind_reads, BeginsOpen, SpellsBraced, in_braces, no_pieces, braced_reads, SpellsHead, head, head_reads, some_head}
-use Rattle.dj_declarations.proofs.Members.{some_typed, some_rest, whole_method, method_reads, member_reads, class_reads}
+use Rattle.dj_declarations.proofs.MemberReaders.{some_typed, some_rest, whole_method, method_reads, member_reads, class_reads}
 
 -- ---- what is removed
 

@@ -1,0 +1,10 @@
+pub mod SaidLemmas
+pub mod Spelled
+pub mod Growing
+pub mod Loops
+pub mod Assembling
+pub mod Picking
+pub mod TokenTexts
+pub mod Refusing
+pub mod Grammars
+pub mod NodeTexts

@@ -1,0 +1,4 @@
+pub mod Said
+pub mod Growth
+pub mod Resolved
+pub mod Refusals
