@@ -1,0 +1,7 @@
+use Rattle.std.proofs.Common.{rules}
+use Rattle.std.proofs.lemmas.Result.{IfOk-weaker}
+use Rattle.dj_faults.proofs.ListFaults.{least_unknown_delta}
+use Rattle.dj_faults.proofs.deltas.unknown_delta.Goals as goal
+
+pub returns : goal.returns
+returns c = IfOk-weaker c.unknown.result _ _ (λ o is. least_unknown_delta c.args.source.now c.requires _ _ o (search rules) (search rules) is) c.unknown.ensures

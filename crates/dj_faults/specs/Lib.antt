@@ -1,0 +1,6 @@
+pub mod LineFaults
+pub mod LeastPlace
+pub mod Spots
+pub mod Numbers
+pub mod Inside
+pub mod Chains

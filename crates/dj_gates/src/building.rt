@@ -1,0 +1,93 @@
+//! Building formulas.
+
+ghost use Rattle.std.specs.Prelude.{◌≡◌, ◌<◌, ◌≤◌, Some, length, map, IfOk};
+ghost use Rattle.arena_walk.specs.Tree.{Tree, EachNode};
+ghost use Rattle.arena_walk.specs.Forest.{tree_at, first_number, HasArity};
+ghost use Rattle.dj_names.specs.Texts.{AreDistinct};
+ghost use Rattle.dj_tree.specs.Arities.{formula_arity};
+ghost use Rattle.dj_tree.specs.Trees.{always, Source as PlainSource};
+ghost use Rattle.dj_tree.specs.Plain.{plain_source, plain_formula};
+ghost use Rattle.dj_tree.specs.WellFormed.{IsWellFormed};
+ghost use Rattle.dj_tree.specs.declared.formula.FormulaNode.{FormulaNode};
+ghost use Rattle.dj_gates.specs.Gates.{StandsFor};
+ghost use Rattle.dj_gates.specs.NodeGates.{node_gate};
+
+use crate::numbers::number_in;
+use arena_walk::{Arena, NodeId, Shape};
+use dj_formula::{Formula, Gate};
+use dj_tree::{FormulaNode, Source};
+use indexmap::IndexSet;
+use std::alloc::{AllocError as NoMemory, Global};
+
+/// The formula of a node of the source's formulas. `features` has the names of the features, in the
+/// order in which the source lists them. It takes time in the size of the node's tree. The one error
+/// is want of memory.
+pub fn formula_of(
+    alloc: Global,
+    source: &Source,
+    features: &IndexSet<u32>,
+    root: NodeId,
+) -> Result<Formula, NoMemory>
+    requires well_formed { IsWellFormed source.now }
+    requires distinct { AreDistinct source.now.names }
+    requires there { root.0 < length source.now.formulas }
+    requires features { features.now.keys ≡ map (λ f. f.name.0) source.now.features }
+    requires few { length source.now.features ≤ 4096 }
+    ensures { IfOk result (λ formula. StandsFor (plain_source source.now) formula (plain_formula source.now.names source.now.formulas root.0)) }
+{
+    // An arena gives no node this number.
+    if root.0 == u32::MAX {
+        return Err(NoMemory);
+    }
+    let first = first_node(&source.formulas, root);
+    let mut nodes = Arena::new(alloc);
+    for number in first.0 as usize..root.0 as usize {
+        let node = source.formulas.get(NodeId(number as u32));
+        nodes.push(gate(node, features))?;
+    }
+    let root = nodes.push(gate(source.formulas.get(root), features))?;
+    Ok(Formula { nodes, root })
+}
+
+/// The formula that is always true. The one error is want of memory.
+pub fn constant_true(alloc: Global) -> Result<Formula, NoMemory>
+    ensures { IfOk result (λ formula. (source : PlainSource) → StandsFor source formula always) }
+{
+    let mut nodes = Arena::new(alloc);
+    let root = nodes.push(Gate::Constant(true))?;
+    Ok(Formula { nodes, root })
+}
+
+// The gate of a node.
+fn gate(node: &FormulaNode, features: &IndexSet<u32>) -> Gate
+    requires { length features.now.keys ≤ 4096 }
+    ensures { result ≡ node_gate features.now.keys node.now }
+{
+    match node {
+        FormulaNode::True => Gate::Constant(true),
+        FormulaNode::False => Gate::Constant(false),
+        FormulaNode::Feature(spot) => Gate::Feature(number_in(features, spot.name.0)),
+        FormulaNode::Not => Gate::Not,
+        FormulaNode::And => Gate::And,
+        FormulaNode::Or => Gate::Or,
+        FormulaNode::Implies => Gate::Implies,
+        FormulaNode::Same => Gate::Same,
+    }
+}
+
+// The first node of a tree, in post-order: its leftmost leaf.
+fn first_node(nodes: &Arena<FormulaNode>, root: NodeId) -> NodeId
+    requires { root.0 < length nodes.now }
+    ensures before { result.0 ≤ root.0 }
+    ensures number { (tree : Tree FormulaNode) → tree_at formula_arity nodes.now root.0 ≡ Some tree → result.0 ≡ first_number root.0 tree }
+    ensures whole { (tree : Tree FormulaNode) → tree_at formula_arity nodes.now root.0 ≡ Some tree
+        → EachNode (λ u _. HasArity formula_arity u) (first_number root.0 tree) tree }
+{
+    let mut at = root;
+    let mut node = nodes.get(at);
+    while node.arity() > 0 {
+        at = nodes.child(at, 0);
+        node = nodes.get(at);
+    }
+    at
+}
