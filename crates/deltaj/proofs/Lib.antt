@@ -1,4 +1,6 @@
-pub mod Pieces
-pub mod Maps
-pub mod Deltas
+pub mod WordAnswers
+pub mod OneAnswer
 pub mod Answering
+pub mod Refusing
+pub mod NotUsage
+pub mod SmallLines

@@ -1,13 +1,17 @@
--- What the program answers: an exit status, and a text that goes to its output.
-use Rattle.std.specs.Prelude.{◌≡◌, ℕ, ◌<◌, ◌≤◌, List, length, Option, Some, None, IsSome, codes, if◌then◌else◌}
+-- What the program answers: an exit status, and a text for its output.
+use Rattle.std.specs.Prelude.{◌≡◌, ℕ, List, Option, Some, None, IsSome, codes, if◌then◌else◌}
 use Rattle.dj_names.specs.Texts.{Text}
-use Rattle.dj_lexer.specs.declared.token.TheConstants.{MAX_LENGTH}
-use Rattle.dj_line.specs.Thin.{Line}
-use Rattle.dj_line.specs.ThinText.{IsThinLine}
+use Rattle.dj_tree.specs.Trees.{Delta, Source}
+use Rattle.dj_calculus.specs.Configurations.{Configuration, ConfigurationFault, ConfigurationWord, ConfigurationWordFault}
+use Rattle.dj_calculus.specs.Products.{OrderFault, OrderWord, OrderWordFault}
+use Rattle.dj_report.specs.Refusals.{IsRefusalText}
+use Rattle.dj_report.specs.WordTexts.{configuration_text, order_text}
+use Rattle.dj_report.specs.declared.refusal.Refusal.{Refusal}
+use Rattle.dj_front.specs.Files.{IsLineFile, IsRefusedFor}
 use Rattle.ifj_table.specs.CanonicalText.{line as text_line, canonical_text}
-use Rattle.deltaj.specs.Commands.{Command, generate, command_of, IsUnbuilt, Names}
-use Rattle.deltaj.specs.Configurations.{pieces_of, are_features, chosen_of, is_on}
-use Rattle.deltaj.specs.Products.{product_of}
+use Rattle.dj_plain.specs.Plain.{is_plain}
+use Rattle.dj_plain.specs.Products.{product_of}
+use Rattle.deltaj.specs.Commands.{Command, generation, command_of, IsUnbuilt, Names}
 
 pub record Answer : Type 0 where
   pub status : ℕ
@@ -19,36 +23,53 @@ usage = record {
   text = text_line (codes "usage: deltaj check FILE | generate FILE CONFIG [ORDER] | verify FILE CERT | explain FILE | typecheck FILE | sample N | try N");
 }
 
-abbrev pub too_long : Answer
-too_long = record { status = 2; text = text_line (codes "refused: longer than 4194304 bytes") }
-
 abbrev pub not_built : Answer
 not_built = record { status = 70; text = text_line (codes "not built") }
 
-abbrev pub not_valid : Answer
-not_valid = record { status = 3; text = text_line (codes "configuration refused: not valid") }
+-- the file is refused, a word is refused, and what was asked for, with these texts
+abbrev pub refused_file : Text → Answer
+refused_file text = record { status = 2; text = text }
 
--- the answer of `generate` for a thin line: the text of the product, where the word is a valid configuration of the line
-abbrev pub line_answer : Line → Text → Answer
-line_answer line config =
-    if are_features line.features (pieces_of config) then
-    (if is_on (chosen_of line.features (pieces_of config)) line.valid then
-    record { status = 0; text = canonical_text (product_of line (chosen_of line.features (pieces_of config))) }
-    else not_valid)
-    else not_built
+abbrev pub refused_word : Text → Answer
+refused_word text = record { status = 3; text = text }
 
--- the answer of `generate` for the bytes of its file
-pub data Generates (config : Text) : List ℕ → Answer → Type 0 where
-  long : {bytes : List ℕ} → MAX_LENGTH < length bytes → Generates config bytes too_long
-  no_line : {bytes : List ℕ} → length bytes ≤ MAX_LENGTH → ((line : Line) → ¬ IsThinLine bytes line) → Generates config bytes not_built
-  of_line : {bytes : List ℕ} {line : Line} → length bytes ≤ MAX_LENGTH → IsThinLine bytes line → Generates config bytes (line_answer line config)
+abbrev pub done : Text → Answer
+done text = record { status = 0; text = text }
+
+-- ---- generate
+
+-- the product of a line in a configuration: not built where the line isn't plain, and else the text of its classes
+abbrev pub product_answer : Source → Configuration → Answer
+product_answer source c = if is_plain source then done (canonical_text (product_of source c)) else not_built
+
+-- in this configuration, with this order word, where one is given
+pub data OrderAnswer (source : Source) (c : Configuration) : Option Text → Answer → Type 0 where
+  in_any_order : OrderAnswer source c None (product_answer source c)
+  in_order : (word : Text) (order : List Delta) → OrderWord source c word order → OrderAnswer source c (Some word) (product_answer source c)
+  order_refused : (word : Text) (fault : OrderFault) → OrderWordFault source c word fault
+      → OrderAnswer source c (Some word) (refused_word (order_text word fault))
+
+-- for a line, a configuration word and an order word
+pub data LineAnswer (source : Source) (config : Text) (order : Option Text) : Answer → Type 0 where
+  configured : (c : Configuration) (answer : Answer) → ConfigurationWord source config c → OrderAnswer source c order answer
+      → LineAnswer source config order answer
+  configuration_refused : (fault : ConfigurationFault) → ConfigurationWordFault source config fault
+      → LineAnswer source config order (refused_word (configuration_text config fault))
+
+-- for the bytes of the file
+pub data Generates (config : Text) (order : Option Text) (bytes : List ℕ) : Answer → Type 0 where
+  of_line : (source : Source) (answer : Answer) → IsLineFile bytes source → LineAnswer source config order answer → Generates config order bytes answer
+  file_refused : (refusal : Refusal) (text : Text) → IsRefusedFor bytes refusal → IsRefusalText bytes refusal text
+      → Generates config order bytes (refused_file text)
+
+-- ---- all commands
 
 -- the answer that the words define, given what is left of each path
 pub data Defines (words : List Text) (left : Text → Option (List ℕ)) : Answer → Type 0 where
   no_command : command_of words ≡ None → Defines words left usage
   unbuilt : IsUnbuilt (command_of words) → Defines words left not_built
-  generates : {file config : Text} {bytes : List ℕ} {answer : Answer} → command_of words ≡ Some (generate file config) → left file ≡ Some bytes
-      → Generates config bytes answer → Defines words left answer
+  generates : (file config : Text) (order : Option Text) (bytes : List ℕ) (answer : Answer) → command_of words ≡ Some (generation file config order)
+      → left file ≡ Some bytes → Generates config order bytes answer → Defines words left answer
 
 -- the file that the command reads tells what is left of it
 abbrev pub IsTold : Option Command → (Text → Option (List ℕ)) → Type 0

@@ -52,12 +52,17 @@ command_of (word ∷ x ∷ y ∷ []) = command_of_two word x y
 command_of (word ∷ x ∷ y ∷ z ∷ []) = command_of_three word x y z
 command_of (_ ∷ _ ∷ _ ∷ _ ∷ _ ∷ _) = None
 
--- a command other than `generate FILE CONFIG`
+-- `generate` with its file, its configuration word, and its order word where one is given
+abbrev pub generation : Text → Text → Option Text → Command
+generation file config None = generate file config
+generation file config (Some order) = generate_in_order file config order
+
+-- a command other than `generate`
 abbrev pub IsUnbuilt : Option Command → Type 0
 IsUnbuilt None = ⊥
 IsUnbuilt (Some (check _)) = Unit {0}
 IsUnbuilt (Some (generate _ _)) = ⊥
-IsUnbuilt (Some (generate_in_order _ _ _)) = Unit {0}
+IsUnbuilt (Some (generate_in_order _ _ _)) = ⊥
 IsUnbuilt (Some (verify _ _)) = Unit {0}
 IsUnbuilt (Some (explain _)) = Unit {0}
 IsUnbuilt (Some (typecheck _)) = Unit {0}
@@ -65,5 +70,7 @@ IsUnbuilt (Some (sample _)) = Unit {0}
 IsUnbuilt (Some (try _)) = Unit {0}
 
 -- the command reads this file
-abbrev pub Names : Option Command → Text → Type 0
-Names command file = (config : Text) × (command ≡ Some (generate file config))
+pub record Names (command : Option Command) (file : Text) : Type 0 where
+  pub config : Text
+  pub order : Option Text
+  pub is : command ≡ Some (generation file config order)

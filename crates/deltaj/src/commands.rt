@@ -7,8 +7,13 @@ ghost use Rattle.deltaj.specs.Outcomes.{Reads};
 
 /// A command, as far as it is built.
 pub enum Command<'a> {
-    Generate { file: &'a str, config: &'a str },
-    /// A command other than `generate FILE CONFIG`.
+    /// The product of a configuration, in the order of deltas that a word gives where one is given.
+    Generate {
+        file: &'a str,
+        config: &'a str,
+        order: Option<&'a str>,
+    },
+    /// A command other than `generate`.
     Unbuilt,
 }
 
@@ -56,6 +61,7 @@ fn with_two<'a>(word: &str, first: &'a str, second: &'a str) -> Option<Command<'
         return Some(Command::Generate {
             file: first,
             config: second,
+            order: None,
         });
     }
     unbuilt(word == "verify")
@@ -69,7 +75,14 @@ fn with_three<'a>(
 ) -> Option<Command<'a>>
     ensures { Reads result (command_of_three word.now first.now second.now third.now) }
 {
-    unbuilt(word == "generate")
+    if word != "generate" {
+        return None;
+    }
+    Some(Command::Generate {
+        file: first,
+        config: second,
+        order: Some(third),
+    })
 }
 
 /// Whether a word is a decimal from 1 to 64, without sign or leading zero.

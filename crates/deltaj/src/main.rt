@@ -3,20 +3,19 @@
 
 mod answer;
 mod commands;
-mod configuration;
+mod generation;
 mod outcome;
-mod product;
 mod program;
 #[cfg(test)]
 mod refutations;
 mod status;
-mod system;
 #[cfg(test)]
 mod tests;
+mod texts;
 
 use crate::program::run;
 use crate::status::Status;
-use crate::system::{Output, SystemFiles};
+use dj_system::{Output, SystemFiles};
 use std::io::ErrorKind;
 use std::process::ExitCode;
 use std::{env, io};

@@ -9,19 +9,17 @@ use std::alloc::AllocError;
 const USAGE: &str =
     "usage: deltaj check FILE | generate FILE CONFIG [ORDER] | verify FILE CERT | explain FILE | typecheck FILE | sample N | try N\n";
 
-const TOO_LONG: &str = "refused: longer than 4194304 bytes\n";
-
 const NOT_BUILT: &str = "not built\n";
-
-const NOT_VALID: &str = "configuration refused: not valid\n";
 
 /// An answer of the program: a status, and a text for its output.
 #[derive(Drop)]
 pub enum Outcome {
     Usage,
-    TooLong,
     NotBuilt,
-    NotValid,
+    /// Why the file is refused.
+    FileRefused(Vec<u8>),
+    /// Why a word of the command line is refused.
+    WordRefused(Vec<u8>),
     /// The canonical text of the product.
     Product(Vec<u8>),
 }
@@ -32,9 +30,9 @@ impl Outcome {
     {
         match self {
             Outcome::Usage => Status::USAGE,
-            Outcome::TooLong => Status::FILE_REFUSED,
             Outcome::NotBuilt => Status::NOT_BUILT,
-            Outcome::NotValid => Status::CONFIGURATION_REFUSED,
+            Outcome::FileRefused(_) => Status::FILE_REFUSED,
+            Outcome::WordRefused(_) => Status::WORD_REFUSED,
             Outcome::Product(_) => Status::DONE,
         }
     }
@@ -44,10 +42,10 @@ impl Outcome {
     {
         match self {
             Outcome::Usage => USAGE.as_bytes(),
-            Outcome::TooLong => TOO_LONG.as_bytes(),
             Outcome::NotBuilt => NOT_BUILT.as_bytes(),
-            Outcome::NotValid => NOT_VALID.as_bytes(),
-            Outcome::Product(text) => text.as_slice(),
+            Outcome::FileRefused(text) | Outcome::WordRefused(text) | Outcome::Product(text) => {
+                text.as_slice()
+            }
         }
     }
 }

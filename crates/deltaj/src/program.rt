@@ -10,7 +10,9 @@ ghost use Rattle.deltaj.specs.Outcomes.{IsDone, answer_of};
 use crate::answer::answer;
 use crate::outcome::{Outcome, Stop};
 use crate::status::Status;
+use dj_front::one_answer;
 use dj_io::{Files, Sink};
+use dj_report::one_refusal_text;
 use std::alloc::Global;
 
 /// Runs the command that the words say, and puts its whole output in one piece. `words` are the words after the
@@ -51,6 +53,8 @@ pub fn run<F: Files, O: Sink>(alloc: Global, words: &[String], files: &mut F, ou
     ensures others { (other : List ℕ) → ¬ Names (command_of (map string_bytes words.now)) other →
         F.left files.new other ≡ F.left files.old other }
 {
+    one_answer();
+    one_refusal_text();
     match answer(alloc, words, files) {
         Ok(outcome) => put_outcome(out, &outcome),
         Err(Stop::ReadFailed) => Status::READ_FAILED,

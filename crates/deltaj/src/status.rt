@@ -9,8 +9,8 @@ impl Status {
     pub const DONE: Status = Status(0);
     /// The file was refused.
     pub const FILE_REFUSED: Status = Status(2);
-    /// The configuration word was refused.
-    pub const CONFIGURATION_REFUSED: Status = Status(3);
+    /// The configuration word or the order word was refused.
+    pub const WORD_REFUSED: Status = Status(3);
     /// The words are no command.
     pub const USAGE: Status = Status(64);
     /// The words aren't UTF-8.

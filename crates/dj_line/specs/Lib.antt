@@ -1,7 +1,9 @@
+pub mod Naming
+pub mod Placing
+pub mod Tables
+pub mod Lines
 pub mod Words
-pub mod Source
-pub mod Grammar
-pub mod Reading
-pub mod View
-pub mod Thin
-pub mod ThinText
+pub mod Numbering
+pub mod Orders
+pub mod LineErrors
+pub mod OrderWords

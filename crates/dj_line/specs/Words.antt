@@ -1,45 +1,32 @@
--- The terminals of the grammar, and which words are names.
-use Rattle.std.specs.Prelude.{◌≡◌, ℕ, Bool, false, List, [], ◌∷◌, map, codes}
-use Rattle.std.specs.List.{list_any}
-use Rattle.std.specs.Str.{bytes_eq}
-use Rattle.dj_lexer.specs.declared.token.TokenKind.{TokenKind}
-use Rattle.dj_lexer.specs.declared.token.TokenKind.TheVariants.{Word, Symbol}
-use Rattle.dj_lexer.specs.declared.token.Token.{Token}
-use Rattle.dj_lexer.specs.Symbols.{symbol_of}
+-- The errors of configuration words and order words, by the faults that they stand for.
+use Rattle.std.specs.Prelude.{ℕ, ◌≤◌, List, ⊤}
+use Rattle.dj_names.specs.Texts.{Text}
+use Rattle.dj_tree.specs.Trees.{Source}
+use Rattle.dj_calculus.specs.Configurations.{ConfigurationFault, unknown_feature, repeated_feature, not_valid, PieceFault, ConfigurationWordFault}
+use Rattle.dj_line.specs.declared.errors.ConfigError.{ConfigError}
+use Rattle.dj_line.specs.declared.errors.ConfigError.TheVariants.{UnknownFeature, RepeatedFeature, NotValid, NoMemory}
 
--- a word or a symbol, with its text
-pub data Terminal : Type 0 where
-  word : List ℕ → Terminal
-  symbol : List ℕ → Terminal
+-- the error of a fault
+abbrev pub config_error : ConfigurationFault → ConfigError
+config_error (unknown_feature k) = UnknownFeature k
+config_error (repeated_feature k) = RepeatedFeature k
+config_error not_valid = NotValid
 
--- the text of a token, that of its symbol
-abbrev pub text_of : List ℕ → Token → List ℕ
-text_of bytes t = (symbol_of bytes t).text
+-- the fault stands at this piece, and none at a piece before it
+pub record IsLeftmost (source : Source) (pieces : List Text) (k : ℕ) (fault : ConfigurationFault) : Type 0 where
+  pub here : PieceFault source pieces k fault
+  pub first : (other : ℕ) (g : ConfigurationFault) → PieceFault source pieces other g → k ≤ other
 
-abbrev pub terminal_of : TokenKind → List ℕ → Terminal
-terminal_of Word text = word text
-terminal_of Symbol text = symbol text
+-- the error has its cause in the pieces
+abbrev pub IsPieceError : Source → List Text → ConfigError → Type 0
+IsPieceError source pieces (UnknownFeature k) = IsLeftmost source pieces k (unknown_feature k)
+IsPieceError source pieces (RepeatedFeature k) = IsLeftmost source pieces k (repeated_feature k)
+IsPieceError source pieces NotValid = ⊥
+IsPieceError source pieces NoMemory = ⊤
 
--- the tokens of a text as terminals
-abbrev pub terminals : List ℕ → List Token → List Terminal
-terminals bytes tokens = map (λ t. terminal_of t.kind (text_of bytes t)) tokens
-
--- the words that are no names
-abbrev pub reserved_words : List (List ℕ)
-reserved_words =
-    codes "abstract" ∷ codes "assert" ∷ codes "boolean" ∷ codes "break" ∷ codes "byte" ∷ codes "case" ∷ codes "catch"
-    ∷ codes "char" ∷ codes "class" ∷ codes "const" ∷ codes "continue" ∷ codes "default" ∷ codes "do" ∷ codes "double"
-    ∷ codes "else" ∷ codes "enum" ∷ codes "extends" ∷ codes "final" ∷ codes "finally" ∷ codes "float" ∷ codes "for"
-    ∷ codes "goto" ∷ codes "if" ∷ codes "implements" ∷ codes "import" ∷ codes "instanceof" ∷ codes "int"
-    ∷ codes "interface" ∷ codes "long" ∷ codes "native" ∷ codes "new" ∷ codes "package" ∷ codes "private"
-    ∷ codes "protected" ∷ codes "public" ∷ codes "return" ∷ codes "short" ∷ codes "static" ∷ codes "strictfp"
-    ∷ codes "super" ∷ codes "switch" ∷ codes "synchronized" ∷ codes "this" ∷ codes "throw" ∷ codes "throws"
-    ∷ codes "transient" ∷ codes "try" ∷ codes "void" ∷ codes "volatile" ∷ codes "while" ∷ codes "true"
-    ∷ codes "false" ∷ codes "null" ∷ []
-
-unfoldable pub is_reserved : List ℕ → Bool
-is_reserved text = list_any (λ w. bytes_eq w text) reserved_words
-
--- a word is a name unless it is reserved
-abbrev pub IsName : List ℕ → Type 0
-IsName text = is_reserved text ≡ false
+-- the error has its cause in the word
+abbrev pub IsWordError : Source → Text → ConfigError → Type 0
+IsWordError source word (UnknownFeature k) = ConfigurationWordFault source word (unknown_feature k)
+IsWordError source word (RepeatedFeature k) = ConfigurationWordFault source word (repeated_feature k)
+IsWordError source word NotValid = ConfigurationWordFault source word not_valid
+IsWordError source word NoMemory = ⊤

@@ -1,14 +1,17 @@
-//! Lines: so far thin ones, whose deltas only add classes.
+//! Accepted product lines, with their configurations and orders.
 #![tactic(auto)]
 
-mod build;
+mod acceptance;
+mod configurations;
+mod errors;
 mod line;
-mod resolve;
-mod source;
-#[cfg(test)]
-mod tests;
-mod thin_source;
-mod words;
+mod order_words;
+mod orders;
+mod tables;
+mod word_pieces;
 
-pub use line::{ThinClass, ThinDelta, ThinError, ThinLine};
-pub use thin_source::{MAX_FEATURES, thin};
+pub use acceptance::accept;
+pub use dj_faults::LineFault;
+pub use errors::{Config, ConfigError, LineError, Order, OrderError};
+pub use line::Line;
+pub use word_pieces::pieces;

@@ -1,0 +1,14 @@
+use Rattle.std.proofs.Common.{ℕ, length, sym, ap, ◌∙◌, subst}
+use Rattle.std.specs.Option.{ForSome}
+use Rattle.dj_formula.specs.Value.{tree_of, HasFeaturesBelow}
+use Rattle.dj_line.proofs.ActiveOrders.{value_is}
+use Rattle.dj_plain.proofs.product.is_active.Goals as goal
+
+pub eval-requires-clause-known : goal.eval-requires-clause-known
+eval-requires-clause-known c =
+    let P : ℕ → Type 0 = λ n. ForSome (tree_of c.formula.result.now) (HasFeaturesBelow n) in
+    subst P (sym (ap length c.deref.ensures.value ∙ c.requires.configuration)) c.formula.ensures.features
+
+pub returns : goal.returns
+returns c =
+    value_is c.formula.result.now c.args.config.now.chosen.items c.deref.result.now _ c.eval.result (sym c.deref.ensures.value) (c.formula.ensures.value c.args.config.now.chosen.items) c.eval.ensures.value

@@ -1,0 +1,3 @@
+pub mod Plain
+pub mod Products
+pub mod Views

@@ -1,0 +1,2 @@
+pub mod OpenFile
+pub mod Holding
