@@ -1,8 +1,8 @@
 -- Which answer is the defined one.
-use Rattle.std.proofs.Common.{◌≡◌, ℕ, Bool, true, false, cond, List, Option, Some, None, Result, Ok, refl, sym, ap, subst, ◌∙◌, arith}
+use Rattle.std.proofs.Common.{◌≡◌, ℕ, List, Option, Some, None, Result, Ok, refl, sym, ap, subst}
 use Rattle.std.specs.Prelude.{IsSome}
 use Rattle.dj_names.specs.Texts.{Text}
-use Rattle.deltaj.specs.Commands.{Command, check, generate, generate_in_order, generation, verify, explain, typecheck, sample, try, command_of, IsUnbuilt, Names}
+use Rattle.deltaj.specs.Commands.{Command, check, generate, generate_in_order, generation, verify, explain, typecheck, sample, try, command_of, IsUnbuilt}
 use Rattle.deltaj.specs.Answers.{Answer, IsTold, usage, not_built, Generates, Defines, no_command, unbuilt, generates}
 use Rattle.deltaj.specs.Outcomes.{answer_of}
 use Rattle.deltaj.specs.declared.outcome.Outcome.{Outcome}

@@ -1,5 +1,5 @@
 -- The bytes of a file and the words define one answer at most.
-use Rattle.std.proofs.Common.{◌≡◌, ℕ, List, Option, Some, None, refl, sym, ap, subst, ◌∙◌}
+use Rattle.std.proofs.Common.{◌≡◌, ℕ, List, Option, refl, sym, ap, subst}
 use Rattle.dj_names.specs.Texts.{Text}
 use Rattle.dj_tree.specs.Trees.{Source}
 use Rattle.dj_calculus.specs.Configurations.{Configuration}

@@ -1,12 +1,11 @@
 -- A source says each delta, and each class and field that deltas add, so that its size is at most the number of its bytes.
-use Rattle.std.proofs.Common.{◌≡◌, ◌≤◌, ◌+◌, ◌^◌, ℕ, List, [], ◌∷◌, ◌++◌, length, arith, sym, ap, ◌∙◌}
-use Rattle.std.specs.Prelude.{sum_by}
+use Rattle.std.proofs.Common.{◌≡◌, ◌≤◌, ◌+◌, ◌^◌, ℕ, List, [], ◌∷◌, ◌++◌, length, arith, ap, ◌∙◌}
 use Rattle.std.specs.List.{filter_map, flat_map}
 use Rattle.std.proofs.lemmas.List.{length-append, length-map}
 use Rattle.std.proofs.lemmas.List.Sums.{sum_by-append, sum_by-cons}
 use Rattle.std.proofs.lemmas.List.Elements.{filter_map-append}
 use Rattle.dj_tree.specs.Trees.{Field, Class, Operation, adds_class, modifies_class, removes_class, Delta, Source}
-use Rattle.dj_calculus.specs.Contents.{added_by, classes_of}
+use Rattle.dj_calculus.specs.Contents.{added_by}
 use Rattle.dj_plain.specs.Products.{class_size, classes_size, source_size}
 use Rattle.dj_lexer.specs.Laws.{TokensAreFew}
 use Rattle.dj_lexer.specs.Symbols.{symbols_of, symbol_of}

@@ -1,10 +1,9 @@
 -- A word stands for one configuration at most, or is refused for one fault; an order word likewise.
-use Rattle.std.proofs.Common.{◌≡◌, ◌≢◌, ◌↔◌, ◌≤◌, ◌<◌, ℕ, List, length, Option, Some, None, slice_get, Result, Ok, Err, refl, sym, ap, subst, ◌∙◌, arith}
+use Rattle.std.proofs.Common.{◌≡◌, ◌≢◌, ◌↔◌, ◌<◌, ℕ, List, length, Result, Err, refl, sym, subst, ◌∙◌}
 use Rattle.std.proofs.lemmas.Option.{slice_get_within}
-use Rattle.std.specs.Prelude.{IsTrue, IsFalse}
 use Rattle.dj_names.specs.Texts.{Text}
-use Rattle.dj_tree.specs.Trees.{Delta, Source}
-use Rattle.dj_calculus.specs.Configurations.{Configuration, IsValid, is_named, pieces_of, choosing, ConfigurationFault, unknown_feature, repeated_feature, not_valid, PieceFault, no_feature, stood_before, HasNoPieceFault, ConfigurationWord, ConfigurationWordFault, leftmost, invalid}
+use Rattle.dj_tree.specs.Trees.{Source}
+use Rattle.dj_calculus.specs.Configurations.{Configuration, pieces_of, ConfigurationFault, unknown_feature, repeated_feature, not_valid, PieceFault, no_feature, stood_before, ConfigurationWord, ConfigurationWordFault, leftmost, invalid}
 use Rattle.dj_calculus.specs.Products.{OrderFault, unknown_delta, not_allowed, IsUnknownPiece, OrderWord, OrderWordFault}
 use Rattle.dj_calculus.specs.Products as orders
 use Rattle.dj_line.specs.Words.{config_error}

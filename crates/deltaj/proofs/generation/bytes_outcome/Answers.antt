@@ -1,4 +1,3 @@
-use Rattle.std.proofs.Common.{◌≡◌}
 use Rattle.dj_line.specs.Lines.{plain_line}
 use Rattle.deltaj.specs.Answers.{of_line}
 use Rattle.deltaj.specs.Outcomes.{answer_of, word_of}

@@ -3,7 +3,7 @@ use Rattle.dj_line.specs.Lines.{plain_line}
 use Rattle.dj_line.specs.Words.{config_error}
 use Rattle.dj_line.specs.declared.errors.ConfigError.TheVariants as config
 use Rattle.dj_report.specs.WordTexts.{IsConfigurationRefusal}
-use Rattle.deltaj.specs.Answers.{Answer, LineAnswer, configured, configuration_refused}
+use Rattle.deltaj.specs.Answers.{LineAnswer, configured, configuration_refused}
 use Rattle.deltaj.specs.Outcomes.{answer_of, word_of}
 use Rattle.deltaj.proofs.WordAnswers.{configuration_fault_of, configuration_sayable}
 use Rattle.deltaj.proofs.Refusing.{if_ok_map, told_by}

@@ -1,7 +1,6 @@
 use Rattle.std.proofs.Common.{sym, subst}
 use Rattle.dj_line.specs.Lines.{plain_line}
-use Rattle.deltaj.specs.Answers.{Answer, OrderAnswer, in_any_order}
-use Rattle.deltaj.specs.Outcomes.{answer_of, word_of}
+use Rattle.deltaj.specs.Answers.{OrderAnswer, in_any_order}
 use Rattle.deltaj.proofs.Refusing.{if_ok_map}
 use Rattle.deltaj.proofs.generation.order_outcome.Goals as goal
 

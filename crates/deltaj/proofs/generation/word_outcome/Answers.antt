@@ -3,8 +3,7 @@ use Rattle.dj_line.specs.Lines.{plain_line}
 use Rattle.dj_line.specs.OrderWords.{order_error}
 use Rattle.dj_line.specs.declared.errors.OrderError.TheVariants as order
 use Rattle.dj_report.specs.WordTexts.{IsOrderRefusal}
-use Rattle.deltaj.specs.Answers.{Answer, OrderAnswer, in_order, order_refused}
-use Rattle.deltaj.specs.Outcomes.{answer_of}
+use Rattle.deltaj.specs.Answers.{OrderAnswer, in_order, order_refused}
 use Rattle.deltaj.proofs.WordAnswers.{order_fault_of, order_sayable}
 use Rattle.deltaj.proofs.Refusing.{if_ok_map, told_by}
 use Rattle.deltaj.proofs.generation.word_outcome.Goals as goal
