@@ -106,7 +106,7 @@ impl<N: Shape> Arena<N> {
         let arity = self.get(at).arity();
         let mut child = at.0 - 1;
         for _ in k + 1..arity {
-            child = self.first(NodeId(child)) - 1;
+            child = self.first(NodeId(child)).0 - 1;
         }
         NodeId(child)
     }
@@ -120,19 +120,20 @@ impl<N: Shape> Arena<N> {
     {
         let mut first = self.slots.len() as u32;
         for _ in 0..count {
-            first = self.first(NodeId(first - 1));
+            first = self.first(NodeId(first - 1)).0;
         }
         first
     }
 
-    // The number of the first node of the tree of a node.
-    pub(crate) fn first(&self, at: NodeId) -> u32
+    /// The number of the first node of a node's tree, which is its leftmost leaf. The nodes from there
+    /// to the tree's root are the tree, in post-order. It takes no memory.
+    pub fn first(&self, at: NodeId) -> NodeId
         requires { at.0 < length self.now }
         ensures tree { (tree : Tree N) × (tree_at N.arity_of self.now at.0 ≡ Some tree)
-            × (result ≡ first_number at.0 tree) × (result ≤ at.0) }
+            × (result.0 ≡ first_number at.0 tree) × (result.0 ≤ at.0) }
         ensures whole { (tree : Tree N) → tree_at N.arity_of self.now at.0 ≡ Some tree
             → EachNode (λ t _. HasArity N.arity_of t) (first_number at.0 tree) tree }
     {
-        self.slots[at.0 as usize].first
+        NodeId(self.slots[at.0 as usize].first)
     }
 }

@@ -98,7 +98,7 @@ pub fn walk<N: Shape, V: Visit<N>>(
         × Appends (V.visited visitor.old) (V.visited visitor.new) (take count (numbers (first_number root.0 tree) tree))) }
 {
     let mut outs = Vec::new(alloc);
-    for number in arena.first(root) as usize..root.0 as usize + 1 {
+    for number in arena.first(root).0 as usize..root.0 as usize + 1 {
         let at = NodeId(number as u32);
         visit_node(arena.get(at), at, &mut outs, visitor)?;
     }

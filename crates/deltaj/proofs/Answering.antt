@@ -8,14 +8,6 @@ use Rattle.deltaj.specs.Outcomes.{answer_of}
 use Rattle.deltaj.specs.declared.outcome.Outcome.{Outcome}
 use Rattle.deltaj.specs.declared.outcome.Outcome.TheVariants.{Usage, NotBuilt}
 
--- ---- the words of `generate`
-
-one_file : (f g c d : Text) (o p : Option Text) → generation f c o ≡ generation g d p → (f ≡ g) × (c ≡ d) × (o ≡ p)
-one_file f g c d None None same = (cc, cc, refl)
-one_file f g c d None (Some y) same = absurd cc
-one_file f g c d (Some x) None same = absurd cc
-one_file f g c d (Some x) (Some y) same = (cc, cc, (let is : x ≡ y = cc in ap Some is))
-
 -- ---- the answer that the words define
 
 pub the_answer : {E : Type 0} (r : Result Outcome E) (o : Outcome) (words : List Text) (left : Text → Option (List ℕ)) (a : Answer)

@@ -4,7 +4,7 @@ use Rattle.std.proofs.lemmas.Option.{slice_get_within}
 use Rattle.dj_names.specs.Texts.{Text}
 use Rattle.dj_tree.specs.Trees.{Source}
 use Rattle.dj_calculus.specs.Configurations.{Configuration, pieces_of, ConfigurationFault, unknown_feature, repeated_feature, not_valid, PieceFault, no_feature, stood_before, ConfigurationWord, ConfigurationWordFault, leftmost, invalid}
-use Rattle.dj_calculus.specs.Products.{OrderFault, unknown_delta, not_allowed, IsUnknownPiece, OrderWord, OrderWordFault}
+use Rattle.dj_calculus.specs.Products.{OrderFault, unknown_delta, not_allowed, OrderWordFault}
 use Rattle.dj_calculus.specs.Products as orders
 use Rattle.dj_line.specs.Words.{config_error}
 use Rattle.dj_line.specs.OrderWords.{order_error}

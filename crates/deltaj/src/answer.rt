@@ -1,10 +1,10 @@
 //! The answer that words define.
-ghost use Rattle.std.specs.Prelude.{◌↔◌, Ok, Err, ◌≡◌, ◌≢◌, ◌≤◌, List, ℕ, None, Some, Option, map, length, IfOk, IsErrOf};
+ghost use Rattle.std.specs.Prelude.{◌↔◌, Ok, Err, ◌≡◌, ◌≢◌, List, ℕ, None, Some, Option, map, IfOk, IsErrOf};
 ghost use Rattle.std.specs.String.{string_bytes};
 ghost use Rattle.dj_io.specs.Count.{Follows, Rises};
 ghost use Rattle.dj_lexer.specs.declared.token.TheConstants.{MAX_LENGTH};
 ghost use Rattle.deltaj.specs.Commands.{generation, command_of as command_in_table, IsUnbuilt, Names};
-ghost use Rattle.deltaj.specs.Answers.{Answer, Generates};
+ghost use Rattle.deltaj.specs.Answers.{Generates};
 ghost use Rattle.deltaj.specs.Outcomes.{answer_of, word_of};
 
 use crate::commands::{Command, command_of};

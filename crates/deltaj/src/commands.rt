@@ -1,6 +1,5 @@
 //! The command that the words say.
 ghost use Rattle.std.specs.Prelude.{◌≡◌, map, if◌then◌else◌};
-ghost use Rattle.std.specs.Str.{bytes_eq};
 ghost use Rattle.std.specs.String.{string_bytes};
 ghost use Rattle.deltaj.specs.Commands.{command_of as command_in_table, command_of_one, command_of_two, command_of_three, is_count as is_count_text, is_digit as is_digit_byte};
 ghost use Rattle.deltaj.specs.Outcomes.{Reads};

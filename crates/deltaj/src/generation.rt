@@ -1,5 +1,5 @@
 //! The answer of `generate` for the bytes of a file.
-ghost use Rattle.std.specs.Prelude.{◌≡◌, ◌≢◌, ◌↔◌, ◌≤◌, ◌^◌, ℕ, List, Option, Ok, Some, length, IfOk, OnOk};
+ghost use Rattle.std.specs.Prelude.{◌≡◌, ◌≢◌, ◌≤◌, ◌^◌, ℕ, List, Option, Ok, Some, length, IfOk, OnOk};
 ghost use Rattle.dj_lexer.specs.declared.token.TheConstants.{MAX_LENGTH};
 ghost use Rattle.dj_calculus.specs.Configurations.{ConfigurationFault};
 ghost use Rattle.dj_calculus.specs.Products.{OrderFault};

@@ -23,4 +23,5 @@ pub mod TableLaw
 pub mod FormedProducts
 pub mod GoodLaw
 pub mod SpelledExpressions
+pub mod Counting
 pub mod PartChain

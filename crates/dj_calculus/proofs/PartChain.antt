@@ -1,16 +1,16 @@
 -- The chain of parts has just the parts that are reached, where no two share a name.
-use Rattle.std.proofs.Common.{◌≡◌, ◌⊎◌, inl, inr, ◌↔◌, ℕ, zero, suc, ◌<◌, ◌≤◌, Bool, true, false, cond, List, [], ◌∷◌, length, map, Option, Some, None, is_none, slice_get, Contains, refl, sym, ap, ◌∙◌, subst, arith}
+use Rattle.std.proofs.Common.{◌≡◌, ◌⊎◌, ◌↔◌, ℕ, zero, suc, ◌<◌, Bool, true, false, cond, List, [], ◌∷◌, length, map, Option, Some, None, is_none, slice_get, Contains, refl, sym, ap, ◌∙◌, subst, arith}
 use Rattle.std.specs.List.{find}
 use Rattle.std.specs.Option.{option_map_or}
 use Rattle.std.specs.Str.{bytes_eq}
 use Rattle.std.proofs.lemmas.Slice.Eq.{bytes_eq-Decides}
-use Rattle.std.proofs.lemmas.Option.{slice_get_within, get_or_from_slice_get}
 use Rattle.dj_names.specs.Texts.{Text}
 use Rattle.dj_tree.specs.Trees.{Spot, Part, Source}
 use Rattle.dj_calculus.specs.Parts.{first_part, comes_after, next_part, IsReached, begins, goes_on, parts_from, chain}
 use Rattle.dj_calculus.specs.Faults.{RepeatedPart}
 use Rattle.dj_calculus.specs.FaultPlaces.{FaultStands, repeated_part}
-use Rattle.dj_calculus.proofs.Members.{same_some, no_element, first_or_other, among_others, either, mapped_within, found_within, StandOnce, later_once, first_apart}
+use Rattle.dj_calculus.proofs.Counting.{as_many, got_within}
+use Rattle.dj_calculus.proofs.Members.{same_some, no_element, first_or_other, either, mapped_within, found_within, StandOnce, later_once, first_apart}
 
 -- ---- lists
 
@@ -22,35 +22,6 @@ first_does p false x y o is rest e = rest e
 found_does : {X : Type 0} (p : X → Bool) (xs : List X) (x : X) → find p xs ≡ Some x → p x ≡ true
 found_does p [] x e = absurd cc
 found_does p (y ∷ xs) x e = first_does p (p y) x y (find p xs) refl (found_does p xs x) e
-
-got_within : {X : Type 0} (xs : List X) (k : ℕ) (x : X) → slice_get xs k ≡ Some x → Contains xs x
-got_within xs k x e = (k, slice_get_within xs k x e, get_or_from_slice_get xs k x x e)
-
--- a list without one of its elements
-abbrev Rest : {X : Type 0} → List X → X → Type 0
-Rest {X} xs x = (ys : List X) × (length xs ≡ suc (length ys)) × ((y : X) → Contains xs y → (x ≡ y) ⊎ Contains ys y)
-
-rest_of : {X : Type 0} (xs : List X) (x : X) → Contains xs x → Rest xs x
-rest_of [] x within = no_element x within
-rest_of (z ∷ xs) x within =
-    either (first_or_other z x xs within) (λ same. (xs, refl, λ y has. either (first_or_other z y xs has) (λ e. inl (sym same ∙ e)) inr))
-    (λ later. let r = rest_of xs x later in (
-      z ∷ r.0,
-      ap suc r.1,
-      λ y has. either (first_or_other z y xs has) (λ e. inr (0, omega arith, e)) (λ more. either (r.2 y more) inl (λ there. inr (among_others z y r.0 there))),
-    ))
-
--- elements with different numbers below n: there are n at least
-as_many : {X : Type 0} (n : ℕ) (xs : List X) (Has : ℕ → X → Type 0) → ((i : ℕ) → i < n → (x : X) × Has i x × Contains xs x)
-    → ((i j : ℕ) (x : X) → Has i x → Has j x → i ≡ j) → n ≤ length xs
-as_many zero xs Has each once = omega arith
-as_many (suc n) xs Has each once =
-    let last = each n (omega arith) in
-    let rest = rest_of xs last.0 last.2 in
-    let fewer : n ≤ length rest.0 =
-    as_many n rest.0 Has (λ i low. let it = each i (omega arith) in
-    (it.0, it.1, either (rest.2 it.0 it.2) (λ same. let equal : n ≡ i = once n i it.0 (subst (Has n) same last.1) it.1 in absurd (omega (arith, equal, low))) (λ there. there))) once in
-    omega (arith, rest.1, fewer)
 
 -- ---- parts by their names
 

@@ -60,7 +60,7 @@ one_expression d e same =
     let both : d ∷ [] ≡ e ∷ [] = sym (grown d [] []) ∙ ap (λ l. grow (l ++ []) []) same ∙ grown e [] [] in
     cc
 
-expr_of_marks : (e : Expr) → expr_of (marks_of e) ≡ e
+pub expr_of_marks : (e : Expr) → expr_of (marks_of e) ≡ e
 expr_of_marks e =
     ap (λ l. unwrap_or (slice_get (grow l []) 0) (null_at 0)) (sym (append-nil (marks_of e))) ∙ ap (λ (l : List Expr). unwrap_or (slice_get l 0) (null_at 0)) (grown e [] [])
 

@@ -1,12 +1,11 @@
 -- Least places: of two facts, and of one more thing of a list.
-use Rattle.std.proofs.Common.{◌≡◌, ◌⊎◌, inl, inr, ℕ, zero, suc, ◌+◌, ◌<◌, ◌≤◌, Bool, true, false, cond, ◌||◌, nat_eq, List, [], ◌∷◌, ◌++◌, length, take, slice_get, min, Option, None, Some, IfOk, Result, refl, sym, ap, ◌∙◌, subst, arith}
+use Rattle.std.proofs.Common.{◌≡◌, ◌⊎◌, inl, inr, ℕ, zero, suc, ◌+◌, ◌<◌, ◌≤◌, Bool, true, false, cond, ◌||◌, nat_eq, List, [], ◌∷◌, ◌++◌, length, take, slice_get, min, Option, None, Some, refl, sym, ap, ◌∙◌, subst, arith}
 use Rattle.std.proofs.lemmas.Option.{slice_get_within, get_or_from_slice_get}
 use Rattle.std.proofs.lemmas.List.{take_more}
 use Rattle.std.proofs.lemmas.List.Folds.{list_any_more}
 use Rattle.std.proofs.lemmas.List.Elements.{Contains-push, Contains-push_cases, Contains-append_left}
-use Rattle.std.proofs.lemmas.Result.{IfOk-weaker}
 use Rattle.dj_tree.specs.declared.declarations.Spot.{Spot}
-use Rattle.dj_calculus.proofs.Members.{same_some, either, no_element}
+use Rattle.dj_calculus.proofs.Members.{same_some, either}
 use Rattle.dj_faults.specs.Numbers.{is_met, Again}
 use Rattle.dj_faults.specs.LeastPlace.{IsLeastPlace, Among, first_place}
 
@@ -16,10 +15,6 @@ least_nowhere P none = record { stands = tt; least = λ at here. absurd (none at
 pub least_same : {P Q : ℕ → Type 0} (o : Option ℕ) → ((at : ℕ) → P at → Q at) → ((at : ℕ) → Q at → P at) → IsLeastPlace P o → IsLeastPlace Q o
 least_same None to from is = record { stands = tt; least = λ at here. is.least at (from at here) }
 least_same (Some k) to from is = record { stands = to k is.stands; least = λ at here. is.least at (from at here) }
-
--- the same of a result
-pub ok_least : {P Q : ℕ → Type 0} {E : Type 0} (r : Result (Option ℕ) E) → ((at : ℕ) → P at → Q at) → ((at : ℕ) → Q at → P at) → IfOk r (IsLeastPlace P) → IfOk r (IsLeastPlace Q)
-ok_least {P} {Q} r to from is = IfOk-weaker r (IsLeastPlace P) (IsLeastPlace Q) (λ o here. least_same o to from here) is
 
 one_or_other : (a b : ℕ) → (min a b ≡ a) ⊎ (min a b ≡ b)
 one_or_other a b = grind arith
@@ -41,9 +36,6 @@ least_either {P} {Q} (Some a) (Some b) p q =
     upper k at h = omega arith
 
 -- ---- along a list
-
-pub among_none : {X : Type 0} (P : X → ℕ → Type 0) → IsLeastPlace (Among P []) None
-among_none P = least_nowhere (Among P []) (λ at here. no_element here.0 here.1)
 
 pub among_next : {X : Type 0} (P : X → ℕ → Type 0) (xs : List X) (i : ℕ) (x : X) (a b : Option ℕ) → slice_get xs i ≡ Some x
     → IsLeastPlace (Among P (take i xs)) a → IsLeastPlace (P x) b → IsLeastPlace (Among P (take (i + 1) xs)) (first_place a b)
@@ -81,9 +73,6 @@ least_untest true at = least_nowhere _ (λ place h. differ h.0)
 
 earlier_or_last : (n i : ℕ) → n < i + 1 → (n < i) ⊎ (n ≡ i)
 earlier_or_last n i low = grind arith
-
-pub again_none : (spots : List Spot) → IsLeastPlace (Again spots 0) None
-again_none spots = least_nowhere (Again spots 0) (λ at here. let low = here.within in omega arith)
 
 pub again_next : (spots : List Spot) (i : ℕ) (x : Spot) (a : Option ℕ) → slice_get spots i ≡ Some x → IsLeastPlace (Again spots i) a
     → IsLeastPlace (Again spots (i + 1)) (first_place a (cond (is_met (take i spots) x.name.0) (Some x.at) None))

@@ -1,11 +1,8 @@
 -- The faults in operations, by the operations of all deltas.
-use Rattle.std.proofs.Common.{◌≡◌, ◌⊎◌, inl, inr, ℕ, cond, List, [], length, map, All, Contains, Option, None, Some, slice_get, nat_eq, codes, refl, sym, ap, ◌∙◌, subst, arith}
+use Rattle.std.proofs.Common.{◌≡◌, ◌⊎◌, inl, inr, ℕ, List, [], length, map, All, Contains, Option, None, Some, slice_get, refl, sym, ap, ◌∙◌, subst, arith}
 use Rattle.std.specs.List.{filter_map, flat_map}
 use Rattle.std.proofs.lemmas.List.Elements.{All-contains, Contains-append_left, Contains-append_right, Contains-append_cases}
-use Rattle.std.proofs.lemmas.Option.{slice_get_within, get_or_from_slice_get}
-use Rattle.std.proofs.lemmas.Bool.Decides.{Decides-eqb}
 use Rattle.dj_calculus.proofs.Members.{either, first_or_other, among_others, filtered_from, kept_by, mapped_within, within_flat}
-use Rattle.dj_names.specs.Texts.{Text}
 use Rattle.dj_tree.specs.Trees as plain
 use Rattle.dj_tree.specs.Trees.{adds_class, modifies_class, removes_class, adds_field, adds_method, modifies_method, removes_field, removes_method}
 use Rattle.dj_tree.specs.Plain.{plain_spot, plain_source, plain_operation, plain_delta, plain_item, plain_part}
@@ -23,7 +20,7 @@ use Rattle.dj_faults.specs.LeastPlace.{IsLeastPlace, Among}
 use Rattle.dj_faults.specs.Numbers.{Again, IsSound}
 use Rattle.dj_faults.specs.Spots.{class_spot}
 use Rattle.dj_faults.specs.Inside.{UnknownName, InCondition, UnknownInItem, InMethod, InModified, InMember, InOperation, OnObject}
-use Rattle.dj_faults.proofs.LeastLemmas.{least_same, least_nowhere, least_test}
+use Rattle.dj_faults.proofs.LeastLemmas.{least_same}
 use Rattle.dj_faults.proofs.NameLemmas.{present, mapped_from, flat_from, map_named, AllKnown}
 use Rattle.dj_faults.proofs.ListFaults.{by_repeats}
 
@@ -270,25 +267,3 @@ module _ (s : Source) where
 
   class_text : (o : ClassOp) → IsOperation s.names s.exprs o → slice_get s.names (class_spot o).name.0 ≡ Some (class_name (plain_operation s.names s.exprs o)).text
   class_text o is = present s.names (class_spot o).name.0 [] (known_class o is) ∙ ap (λ (x : plain.Spot). Some x.text) (sym (same_class o))
-
-  -- where `Object` is a name
-  pub least_object : IsSound s → (o : ClassOp) (object : ℕ) → IsOperation s.names s.exprs o → slice_get s.names object ≡ Some (codes "Object")
-      → IsLeastPlace (OnObject (plain_operation s.names s.exprs o)) (cond (nat_eq object (class_spot o).name.0) (Some (class_spot o).at) None)
-  least_object sound o object is there =
-      least_same (cond (nat_eq object (class_spot o).name.0) (Some (class_spot o).at) None)
-      (λ at h. (same_text ((Decides-eqb object (class_spot o).name.0).0 h.0), ap (λ (x : plain.Spot). x.at) (same_class o) ∙ h.1))
-      (λ at h. ((Decides-eqb object (class_spot o).name.0).1 (sound.distinct object (class_spot o).name.0 (codes "Object") there (class_text o is ∙ ap Some h.0)), ap (λ (x : plain.Spot). x.at) (sym (same_class o)) ∙ h.1))
-      (least_test (nat_eq object (class_spot o).name.0) (class_spot o).at)
-    where
-      same_text : object ≡ (class_spot o).name.0 → (class_name (plain_operation s.names s.exprs o)).text ≡ codes "Object"
-      same_text e =
-          let both : ◌≡◌ {A = Option Text} (Some (class_name (plain_operation s.names s.exprs o)).text) (Some (codes "Object")) = sym (class_text o is) ∙ ap (slice_get s.names) (sym e) ∙ there in
-          cc
-
-  -- where it is none
-  pub least_without_object : (o : ClassOp) → IsOperation s.names s.exprs o → ¬ (Contains s.names (codes "Object")) → IsLeastPlace (OnObject (plain_operation s.names s.exprs o)) None
-  least_without_object o is absent =
-      least_nowhere _ (λ at h. absent (got (class_spot o).name.0 (class_text o is ∙ ap Some h.0)))
-    where
-      got : (k : ℕ) → slice_get s.names k ≡ Some (codes "Object") → Contains s.names (codes "Object")
-      got k e = (k, slice_get_within s.names k (codes "Object") e, get_or_from_slice_get s.names k (codes "Object") (codes "Object") e)

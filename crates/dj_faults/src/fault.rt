@@ -1,5 +1,5 @@
 //! The faults of a source, in the order in which they are looked for.
-ghost use Rattle.std.specs.Prelude.{◌≡◌, ℕ, ◌<◌, ◌↔◌, IfOk, IfSome, IsNone};
+ghost use Rattle.std.specs.Prelude.{ℕ, ◌<◌, ◌↔◌, IfOk, IfSome, IsNone};
 ghost use Rattle.dj_tree.specs.Plain.{plain_source};
 ghost use Rattle.dj_tree.specs.WellFormed.{IsWellFormed};
 ghost use Rattle.dj_calculus.specs.Accepted.{FirstFault, IsAccepted};

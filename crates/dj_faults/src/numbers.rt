@@ -1,5 +1,5 @@
 //! Names by their numbers: which are met twice, and which aren't met.
-ghost use Rattle.std.specs.Prelude.{◌≡◌, ℕ, ◌↔◌, true, false, length, nat_eq, Some, None, IfOk, OnOk, if◌then◌else◌};
+ghost use Rattle.std.specs.Prelude.{◌≡◌, ℕ, true, length, nat_eq, Some, None, IfOk, OnOk, if◌then◌else◌};
 ghost use Rattle.indexmap.specs.IndexSet.{contains};
 ghost use Rattle.dj_faults.specs.LeastPlace.{IsLeastPlace, Among};
 ghost use Rattle.dj_faults.specs.Numbers.{is_met, Again, Unmet};

@@ -1,18 +1,17 @@
 //! Faults in the operations of deltas.
-ghost use Rattle.std.specs.Prelude.{◌≡◌, ◌<◌, ◌⊎◌, length, map, IfOk};
-ghost use Rattle.dj_tree.specs.Plain.{plain_method, plain_member, plain_operation, plain_spot};
-ghost use Rattle.dj_tree.specs.WellFormed.{IsMethod, IsMember, IsOperation, IsKnown};
+ghost use Rattle.std.specs.Prelude.{◌<◌, IfOk};
+ghost use Rattle.dj_tree.specs.Plain.{plain_method, plain_member, plain_operation};
+ghost use Rattle.dj_tree.specs.WellFormed.{IsMethod, IsMember, IsOperation};
 ghost use Rattle.std.specs.Prelude.{All};
-ghost use Rattle.dj_calculus.specs.FaultPlaces.{Repeats};
 ghost use Rattle.dj_faults.specs.LeastPlace.{IsLeastPlace, Among};
 ghost use Rattle.dj_faults.specs.Numbers.{IsSound};
-ghost use Rattle.dj_faults.specs.Inside.{InMethod, InModified, InMember, Twice, InMethods, InOperation, OnObject};
+ghost use Rattle.dj_faults.specs.Inside.{InMethod, InModified, InMember, Twice, InMethods, InOperation};
 
 use crate::least::earlier;
 use crate::numbers::repeated;
-use crate::spots::{class_of, field_names, fields_changed, method_names, methods_changed};
+use crate::spots::{field_names, fields_changed, method_names, methods_changed};
 use crate::trees::originals_in;
-use dj_tree::{ClassChange, ClassDecl, ClassOp, DeltaDecl, MemberOp, Method, Source};
+use dj_tree::{ClassChange, ClassDecl, ClassOp, MemberOp, Method, Source};
 use std::alloc::{AllocError as NoMemory, Global};
 
 /// A fault that stands in one operation of a delta.

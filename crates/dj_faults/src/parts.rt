@@ -1,5 +1,5 @@
 //! Faults of parts, and their chain.
-ghost use Rattle.std.specs.Prelude.{◌≡◌, ℕ, ◌<◌, ◌++◌, [], All, length, map, nat_eq, slice_get, Some, None, IfOk, IfSome, OnOk, is_some, is_none, if◌then◌else◌};
+ghost use Rattle.std.specs.Prelude.{◌≡◌, ℕ, ◌<◌, ◌++◌, All, length, nat_eq, slice_get, Some, None, IfOk, IfSome, OnOk, is_some, is_none, if◌then◌else◌};
 ghost use Rattle.std.specs.List.{filter_map, find};
 ghost use Rattle.std.specs.Option.{option_map, option_and_then, option_to_list};
 ghost use Rattle.indexmap.specs.IndexMap.{get};

@@ -10,7 +10,7 @@ ghost use Rattle.dj_faults.specs.Inside.{UnknownIn, OriginalIn, UnknownName};
 
 use crate::least::least_of;
 use crate::numbers::unmet;
-use arena_walk::{NodeId, Visit, WalkError, walk};
+use arena_walk::{NodeId, Visit, walk};
 use dj_tree::{ExprNode, FormulaNode, Source};
 use indexmap::IndexSet;
 use std::alloc::{AllocError as NoMemory, Global};

@@ -1,15 +1,13 @@
 //! Values of formulas.
 
-ghost use Rattle.std.specs.Prelude.{◌≡◌, ◌<◌, ◌≤◌, Some, length, IfOk};
+ghost use Rattle.std.specs.Prelude.{◌≡◌, ◌<◌, ◌≤◌, length, IfOk};
 ghost use Rattle.std.specs.Option.{ForSome};
-ghost use Rattle.arena_walk.specs.Tree.{Tree, EachNode};
-ghost use Rattle.arena_walk.specs.Forest.{tree_at, first_number, HasArity};
 ghost use Rattle.dj_formula.specs.declared.formula.Gate.{Gate};
 ghost use Rattle.dj_formula.specs.Gates.{operands as operands_of, IsBelow};
 ghost use Rattle.dj_formula.specs.Value.{tree_of, gate_value as value_of_gate, HasValue, HasFeaturesBelow};
 
 use crate::formula::{Formula, Gate};
-use arena_walk::{Arena, NodeId, Shape, Visit, WalkError, walk};
+use arena_walk::{NodeId, Shape, Visit, walk};
 use std::alloc::{AllocError as NoMemory, Global};
 use std::convert::Infallible;
 
@@ -38,7 +36,7 @@ pub fn eval_in(formula: &Formula, chosen: &[bool], scratch: &mut [bool]) -> bool
     requires room { length formula.now.nodes ≤ length scratch.old }
     ensures value { HasValue formula.now chosen.now result }
 {
-    let first = first_node(&formula.nodes, formula.root);
+    let first = formula.nodes.first(formula.root);
     // The scratch begins with the values of the trees that no gate has taken yet.
     let mut finished = 0;
     for number in first.0 as usize..formula.root.0 as usize + 1 {
@@ -103,20 +101,4 @@ fn gate_value(gate: &Gate, chosen: &[bool], operands: &[bool]) -> bool
         Gate::Implies => !operands[0] || operands[1],
         Gate::Same => operands[0] == operands[1],
     }
-}
-
-// The first node of a tree, in post-order: its leftmost leaf.
-fn first_node(nodes: &Arena<Gate>, root: NodeId) -> NodeId
-    requires { root.0 < length nodes.now }
-    ensures number { (tree : Tree Gate) → tree_at operands_of nodes.now root.0 ≡ Some tree → result.0 ≡ first_number root.0 tree }
-    ensures whole { (tree : Tree Gate) → tree_at operands_of nodes.now root.0 ≡ Some tree
-        → EachNode (λ u _. HasArity operands_of u) (first_number root.0 tree) tree }
-{
-    let mut at = root;
-    let mut gate = nodes.get(at);
-    while gate.arity() > 0 {
-        at = nodes.child(at, 0);
-        gate = nodes.get(at);
-    }
-    at
 }

@@ -13,28 +13,29 @@ use Rattle.dj_tree.specs.FormulaGrammar as grammar
 use Rattle.dj_tree.specs.FormulaGrammar.{FormulaLevel, SpellsAt}
 use Rattle.dj_formula_reader.specs.Laws.{OneFormula, parts, formula_of, SpellsNodes, FormulaTreesAreRead}
 
-each : {l : FormulaLevel} {s : List Symbol} {a : Formula} → SpellsAt l s a → (first : ℕ) → EachNode (λ u _. HasArity parts u) first a
-each (grammar.same {a = a} at x y) first = ((each x first, (each y (first + size a), tt)), refl)
-each (grammar.one_implies x) first = each x first
-each (grammar.implies {a = a} at x y) first = ((each x first, (each y (first + size a), tt)), refl)
-each (grammar.one_or x) first = each x first
-each (grammar.or {a = a} at x y) first = ((each x first, (each y (first + size a), tt)), refl)
-each (grammar.or_doubled {a = a} at x y) first = ((each x first, (each y (first + size a), tt)), refl)
-each (grammar.one_and x) first = each x first
-each (grammar.and {a = a} at x y) first = ((each x first, (each y (first + size a), tt)), refl)
-each (grammar.and_doubled {a = a} at x y) first = ((each x first, (each y (first + size a), tt)), refl)
-each (grammar.one_not x) first = each x first
-each (grammar.not at x) first = ((each x first, tt), refl)
-each (grammar.true_word at) first = (tt, refl)
-each (grammar.false_word at) first = (tt, refl)
-each (grammar.feature_name x i) first = (tt, refl)
-each (grammar.in_parentheses o c x) first = each x first
+-- each operator that the grammar spells has as many parts as it takes
+pub each_operator : {l : FormulaLevel} {s : List Symbol} {a : Formula} → SpellsAt l s a → (first : ℕ) → EachNode (λ u _. HasArity parts u) first a
+each_operator (grammar.same {a = a} at x y) first = ((each_operator x first, (each_operator y (first + size a), tt)), refl)
+each_operator (grammar.one_implies x) first = each_operator x first
+each_operator (grammar.implies {a = a} at x y) first = ((each_operator x first, (each_operator y (first + size a), tt)), refl)
+each_operator (grammar.one_or x) first = each_operator x first
+each_operator (grammar.or {a = a} at x y) first = ((each_operator x first, (each_operator y (first + size a), tt)), refl)
+each_operator (grammar.or_doubled {a = a} at x y) first = ((each_operator x first, (each_operator y (first + size a), tt)), refl)
+each_operator (grammar.one_and x) first = each_operator x first
+each_operator (grammar.and {a = a} at x y) first = ((each_operator x first, (each_operator y (first + size a), tt)), refl)
+each_operator (grammar.and_doubled {a = a} at x y) first = ((each_operator x first, (each_operator y (first + size a), tt)), refl)
+each_operator (grammar.one_not x) first = each_operator x first
+each_operator (grammar.not at x) first = ((each_operator x first, tt), refl)
+each_operator (grammar.true_word at) first = (tt, refl)
+each_operator (grammar.false_word at) first = (tt, refl)
+each_operator (grammar.feature_name x i) first = (tt, refl)
+each_operator (grammar.in_parentheses o c x) first = each_operator x first
 
 pub one_formula : OneFormula
-one_formula s t a b x y e = same_from_nodes parts 0 a b (each x 0) (each y 0) e
+one_formula s t a b x y e = same_from_nodes parts 0 a b (each_operator x 0) (each_operator y 0) e
 
 tree_of_nodes : {l : FormulaLevel} {s : List Symbol} {a : Formula} → SpellsAt l s a → formula_of (nodes a) ≡ a
-tree_of_nodes {a = a} x = ap (λ l. unwrap_or (slice_get l 0) always) (trees-nodes parts 0 a (each x 0))
+tree_of_nodes {a = a} x = ap (λ l. unwrap_or (slice_get l 0) always) (trees-nodes parts 0 a (each_operator x 0))
 
 pub formula_trees_are_read : FormulaTreesAreRead
 formula_trees_are_read = same_reads (record { to = to; from = from }) (mapped_reads formula_of formulas_are_read)

@@ -1,12 +1,12 @@
 -- A fault of a spelled source stands at the place of one of its symbols.
-use Rattle.std.proofs.Common.{◌≡◌, ◌<◌, ℕ, zero, suc, List, [], ◌∷◌, ◌++◌, map, length, get_or, slice_get, Option, Some, None, refl, subst, sym, append_assoc, arith, Contains}
+use Rattle.std.proofs.Common.{◌≡◌, ◌<◌, ℕ, zero, suc, List, [], ◌∷◌, ◌++◌, map, length, get_or, slice_get, Option, Some, None, refl, subst, append_assoc, arith, Contains}
 use Rattle.std.proofs.lemmas.List.Elements.{Contains-append_right}
 use Rattle.std.specs.List.{flat_map, filter_map, cons_option}
 use Rattle.std.proofs.lemmas.Option.{slice_get_within, get_or_from_slice_get}
 use Rattle.arena_walk.specs.Tree.{Tree, Trees, branch, no_trees, tree_and, nodes, nodes_each}
 use Rattle.dj_lexer.specs.Symbols.{Symbol}
 use Rattle.dj_tree.specs.Trees.{Spot, Formula, FormulaForm, TrueForm, FalseForm, FeatureForm, NotForm, AndForm, OrForm, ImpliesForm, SameForm}
-use Rattle.dj_tree.specs.Trees.{Method, Class, MemberOperation, adds_field, adds_method, modifies_method, removes_field, removes_method, Change, Operation, adds_class, modifies_class, removes_class, Delta, Item, Part, Source, OriginalForm, ExprForm}
+use Rattle.dj_tree.specs.Trees.{Method, MemberOperation, adds_field, adds_method, modifies_method, removes_field, removes_method, Operation, adds_class, modifies_class, removes_class, Source, OriginalForm}
 use Rattle.dj_tree.specs.Spells.{Spells}
 use Rattle.dj_calculus.specs.Formulas.{name_in, names_in}
 use Rattle.dj_calculus.specs.Contents.{items_of, formulas_of, operations_of, class_name, added_by, change_by, classes_of, changes_of, field_name, method_name, method_added, method_modified, new_methods, modified_methods}
@@ -135,9 +135,6 @@ module _ (P : ℕ → Type 0) where
 
   picked : {Y : Type 0} (Q : Y → Type 0) (f : MemberOperation → Option Y) → ((m : MemberOperation) → AtMember P m → OfOption Q (f m)) → (members : List MemberOperation) → Each (AtMember P) members → Each Q (filter_map f members)
   picked Q f change members each = each_picked Q f members (each_same (AtMember P) (λ m. OfOption Q (f m)) change members each)
-
-  at_original : (form : ExprForm) (at : ℕ) → AtNode P form → form ≡ OriginalForm at → P at
-  at_original form at holds is = subst (AtNode P) is holds
 
   -- ---- what stands in a source
 

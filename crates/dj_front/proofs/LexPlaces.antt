@@ -1,6 +1,5 @@
 -- The first fault of bytes stands within them.
-use Rattle.std.proofs.Common.{◌≡◌, ◌≤◌, ◌+◌, ℕ, List, ◌++◌, length, ap, arith}
-use Rattle.std.specs.Str.{IsUtf8, chars}
+use Rattle.std.proofs.Common.{◌≤◌, ◌+◌, ℕ, List, length, ap, arith}
 use Rattle.dj_lexer.specs.Alphabet.{byte_len}
 use Rattle.dj_lexer.specs.Faults.{FaultFrom, bad_character, open_comment, too_deep, skipped, token, FirstFault}
 use Rattle.dj_lexer.specs.declared.token.Dialect.{Dialect}

@@ -1,12 +1,12 @@
 -- Bytes say one line at most, or are refused for one reason.
-use Rattle.std.proofs.Common.{◌≡◌, ◌≤◌, ◌<◌, ℕ, List, length, refl, sym, ap, subst, ◌∙◌, arith}
+use Rattle.std.proofs.Common.{◌≡◌, ℕ, List, length, refl, sym, ap, subst, ◌∙◌, arith}
 use Rattle.dj_lexer.specs.Symbols.{symbols_of}
 use Rattle.dj_lexer.specs.Faults.{HasTokens}
 use Rattle.dj_lexer.specs.Laws as lexer
 use Rattle.dj_lexer.specs.declared.token.Dialect.TheVariants as dialect
 use Rattle.dj_lexer.specs.declared.token.Token.{Token}
 use Rattle.dj_tree.specs.Trees.{Source}
-use Rattle.dj_tree.specs.Spells.{Spells, Viable}
+use Rattle.dj_tree.specs.Spells.{Spells}
 use Rattle.dj_parser.specs.Refusals.{IsLineRefusedAt}
 use Rattle.dj_parser.proofs.Grammars.{one_line_place, no_line_refused}
 use Rattle.dj_declarations.specs.Laws.{OneSource}
@@ -17,9 +17,8 @@ use Rattle.dj_calculus.specs.Laws.{OneFirstFault}
 use Rattle.dj_faults.specs.LineFaults.{fault_of}
 use Rattle.dj_faults.specs.declared.fault.LineFault.{LineFault}
 use Rattle.dj_faults.specs.declared.fault.LineFault.TheVariants.{RepeatedFeature, UnknownFeature, TooManyFeatures, RepeatedDelta, UnknownDelta, DeltaNotPlaced, DeltaPlacedTwice, RepeatedPart, UnknownPart, PartsNoChain, RepeatedOperation, RepeatedMember, RepeatedParameter, ReservedClass, OriginalOutside}
-use Rattle.dj_report.specs.declared.refusal.Refusal.{Refusal}
-use Rattle.dj_report.specs.declared.refusal.Refusal.TheVariants.{TooLong, Lex, Syntax, Line}
-use Rattle.dj_front.specs.Files.{HasTokenList, IsLineFile, IsRefusedFor, too_long, no_tokens, no_source, at_fault}
+use Rattle.dj_report.specs.declared.refusal.Refusal.TheVariants.{Lex, Syntax, Line}
+use Rattle.dj_front.specs.Files.{HasTokenList, too_long, no_tokens, no_source, at_fault}
 use Rattle.dj_front.specs.Laws.{OneLine, OneRefusal, NoRefusedLine}
 
 -- ---- the fault of the code is told by the fault that it stands for

@@ -5,7 +5,6 @@ use Rattle.arena_walk.specs.Tree.{Tree, Trees, branch, no_trees, tree_and, trees
 use Rattle.dj_lexer.specs.Symbols.{Symbol}
 use Rattle.dj_lexer.specs.declared.token.Dialect.{Dialect}
 use Rattle.dj_lexer.specs.declared.token.Dialect.TheVariants.{Line}
-use Rattle.dj_tree.specs.Words.{word, sign, named}
 use Rattle.dj_tree.specs.Trees.{Spot, Formula, FormulaForm, TrueForm, FalseForm, FeatureForm, NotForm, AndForm, OrForm, ImpliesForm, SameForm}
 use Rattle.dj_tree.specs.Trees.{Expr, ExprForm, VariableForm, ThisForm, NullForm, FieldForm, CallForm, NewForm, CastForm, AssignForm, OriginalForm}
 use Rattle.dj_tree.specs.Trees.{Field, Method, Class, MemberOperation, adds_field, adds_method, modifies_method, removes_field, removes_method, Change}
@@ -18,7 +17,7 @@ use Rattle.dj_tree.specs.Repeats.{Many, none, more, AfterComma, after_comma, Lis
 use Rattle.dj_tree.specs.ClassGrammar as classes
 use Rattle.dj_tree.specs.ClassGrammar.{SpellsTyped, typed, SpellsMethod, Member, field_member, method_member, SpellsMember, fields_of, methods_of, SpellsOptional, omitted, given, SpellsClass}
 use Rattle.dj_tree.specs.LineGrammar as lines
-use Rattle.dj_tree.specs.LineGrammar.{adds_member, SpellsMemberOperation, SpellsOperation, SpellsDelta, SpellsCondition, SpellsItem, SpellsPart, SpellsName, SpellsSource}
+use Rattle.dj_tree.specs.LineGrammar.{adds_member, SpellsMemberOperation, SpellsOperation, SpellsDelta, SpellsCondition, SpellsItem, SpellsPart, SpellsName}
 use Rattle.dj_tree.specs.Spells.{Spells}
 
 -- ---- of each element, and of each node

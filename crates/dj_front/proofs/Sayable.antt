@@ -1,12 +1,10 @@
 -- A refusal that bytes are refused for stands in them, and a name is said where its text takes one.
-use Rattle.std.proofs.Common.{◌≡◌, ◌≤◌, ◌<◌, ℕ, zero, suc, List, [], ◌∷◌, ◌++◌, map, length, refl, sym, ap, subst, arith, Contains}
-use Rattle.std.specs.Prelude.{slice_range, All}
+use Rattle.std.proofs.Common.{◌≡◌, ◌≤◌, ◌<◌, ℕ, zero, suc, List, [], ◌∷◌, map, length, refl, sym, ap, subst, arith, Contains}
 use Rattle.std.proofs.lemmas.List.Elements.{Contains-append_right}
 use Rattle.dj_lexer.specs.Symbols.{Symbol, symbol_of, symbols_of}
 use Rattle.dj_lexer.specs.Laws.{TokensAreSpans}
 use Rattle.dj_lexer.specs.declared.token.Dialect.TheVariants as dialect
 use Rattle.dj_lexer.specs.declared.token.Token.{Token}
-use Rattle.dj_tree.specs.Spells.{Viable}
 use Rattle.dj_parser.specs.Refusals.{IsLineRefusedAt, at_symbol, at_end}
 use Rattle.dj_faults.specs.LineFaults.{fault_of}
 use Rattle.dj_report.specs.Places.{IsTokenAt}

@@ -3,7 +3,6 @@ use Rattle.std.proofs.Common.{◌≡◌, ◌≢◌, ◌↔◌, ◌≤◌, ℕ, L
 use Rattle.std.specs.Result.{IsOk}
 use Rattle.dj_lexer.specs.Faults.{FirstFault, error_of}
 use Rattle.dj_lexer.specs.declared.token.Dialect.TheVariants as dialect
-use Rattle.dj_lexer.specs.declared.token.Tokens.{Tokens}
 use Rattle.dj_lexer.specs.declared.token.LexFault.{LexFault}
 use Rattle.dj_lexer.specs.declared.token.LexFault.TheVariants as fault
 use Rattle.dj_lexer.specs.declared.token.LexError.{LexError}
@@ -12,7 +11,7 @@ use Rattle.dj_lexer.specs.declared.token.TheConstants.{MAX_LENGTH}
 use Rattle.dj_tree.specs.Trees.{Source}
 use Rattle.dj_line.specs.Lines.{plain_line}
 use Rattle.dj_line.specs.declared.line.Line.{Line}
-use Rattle.dj_front.specs.Files.{IsLineFile, IsRefusedFor, no_tokens, IsFileError, lex_error}
+use Rattle.dj_front.specs.Files.{IsLineFile, no_tokens, IsFileError, lex_error}
 use Rattle.dj_front.specs.Laws.{NoRefusedLine}
 use Rattle.dj_front.specs.declared.reading.FileError.{FileError}
 use Rattle.dj_front.specs.declared.reading.FileError.TheVariants as file

@@ -1,7 +1,7 @@
 -- Files of product lines: what their bytes say, or why they are refused.
 use Rattle.std.specs.Prelude.{◌<◌, ◌≤◌, ℕ, List, length}
 use Rattle.dj_lexer.specs.Tokens.{TokenList}
-use Rattle.dj_lexer.specs.Symbols.{Symbol, symbols_of, greatest_depth}
+use Rattle.dj_lexer.specs.Symbols.{symbols_of, greatest_depth}
 use Rattle.dj_lexer.specs.Faults.{FirstFault}
 use Rattle.dj_lexer.specs.declared.token.Dialect.TheVariants as dialect
 use Rattle.dj_lexer.specs.declared.token.Token.{Token}

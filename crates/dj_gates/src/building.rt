@@ -1,10 +1,7 @@
 //! Building formulas.
 
-ghost use Rattle.std.specs.Prelude.{◌≡◌, ◌<◌, ◌≤◌, Some, length, map, IfOk};
-ghost use Rattle.arena_walk.specs.Tree.{Tree, EachNode};
-ghost use Rattle.arena_walk.specs.Forest.{tree_at, first_number, HasArity};
+ghost use Rattle.std.specs.Prelude.{◌≡◌, ◌<◌, ◌≤◌, length, map, IfOk};
 ghost use Rattle.dj_names.specs.Texts.{AreDistinct};
-ghost use Rattle.dj_tree.specs.Arities.{formula_arity};
 ghost use Rattle.dj_tree.specs.Trees.{always, Source as PlainSource};
 ghost use Rattle.dj_tree.specs.Plain.{plain_source, plain_formula};
 ghost use Rattle.dj_tree.specs.WellFormed.{IsWellFormed};
@@ -13,7 +10,7 @@ ghost use Rattle.dj_gates.specs.Gates.{StandsFor};
 ghost use Rattle.dj_gates.specs.NodeGates.{node_gate};
 
 use crate::numbers::number_in;
-use arena_walk::{Arena, NodeId, Shape};
+use arena_walk::{Arena, NodeId};
 use dj_formula::{Formula, Gate};
 use dj_tree::{FormulaNode, Source};
 use indexmap::IndexSet;
@@ -39,7 +36,7 @@ pub fn formula_of(
     if root.0 == u32::MAX {
         return Err(NoMemory);
     }
-    let first = first_node(&source.formulas, root);
+    let first = source.formulas.first(root);
     let mut nodes = Arena::new(alloc);
     for number in first.0 as usize..root.0 as usize {
         let node = source.formulas.get(NodeId(number as u32));
@@ -73,21 +70,4 @@ fn gate(node: &FormulaNode, features: &IndexSet<u32>) -> Gate
         FormulaNode::Implies => Gate::Implies,
         FormulaNode::Same => Gate::Same,
     }
-}
-
-// The first node of a tree, in post-order: its leftmost leaf.
-fn first_node(nodes: &Arena<FormulaNode>, root: NodeId) -> NodeId
-    requires { root.0 < length nodes.now }
-    ensures before { result.0 ≤ root.0 }
-    ensures number { (tree : Tree FormulaNode) → tree_at formula_arity nodes.now root.0 ≡ Some tree → result.0 ≡ first_number root.0 tree }
-    ensures whole { (tree : Tree FormulaNode) → tree_at formula_arity nodes.now root.0 ≡ Some tree
-        → EachNode (λ u _. HasArity formula_arity u) (first_number root.0 tree) tree }
-{
-    let mut at = root;
-    let mut node = nodes.get(at);
-    while node.arity() > 0 {
-        at = nodes.child(at, 0);
-        node = nodes.get(at);
-    }
-    at
 }

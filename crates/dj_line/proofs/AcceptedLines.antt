@@ -17,7 +17,7 @@ use Rattle.dj_calculus.specs.Parts.{chain, parts_from, first_part, next_part, co
 use Rattle.dj_calculus.proofs.Members.{no_element, first_or_other, among_others, either, mapped, found_within, within_flat, kept_by}
 use Rattle.dj_calculus.proofs.PartChain.{chain_is_reached}
 use Rattle.dj_line.specs.Placing.{delta_number, numbers_of, numbers_along, is_item_of, formula_of}
-use Rattle.dj_line.proofs.Counting.{as_many, got_within, number_in}
+use Rattle.dj_calculus.proofs.Counting.{as_many, got_within, number_in}
 
 -- ---- lists
 

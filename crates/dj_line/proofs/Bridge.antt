@@ -23,7 +23,7 @@ use Rattle.dj_line.specs.declared.tables.Placing.{Placing}
 use Rattle.dj_line.specs.Placing.{delta_number, numbers_of, numbers_along}
 use Rattle.dj_line.specs.Numbering.{number_by, HasItems, ArePlaced, StandsAt, when_formula, IsPlaced}
 use Rattle.dj_line.proofs.AcceptedLines.{delta_is_placed, named_one, on_chain, item_has_delta}
-use Rattle.dj_line.proofs.Counting.{number_in, got_within}
+use Rattle.dj_calculus.proofs.Counting.{number_in, got_within}
 use Rattle.dj_line.proofs.DeltaNames.{delta_spots, delta_keys, spots_known}
 use Rattle.dj_line.proofs.DeltaNumbers.{condition_of_item, number_of_delta}
 use Rattle.dj_line.proofs.Lists.{any_at}

@@ -25,13 +25,6 @@ pub record ChoosesFirst (source : Source) (pieces : List Text) (k : ℕ) (chosen
   pub clean : (j : ℕ) (fault : ConfigurationFault) → j < k → ¬ (PieceFault source pieces j fault)
 
 module _ (source : Source) (accepted : IsAccepted source) (pieces : List Text) where
-  pub chooses_none : (chosen : List Bool) → length chosen ≡ length source.features → ((i : ℕ) → i < length chosen → slice_get chosen i ≡ Some false) → ChoosesFirst source pieces 0 chosen
-  chooses_none chosen count none = record {
-    as_many = count;
-    each = λ i f at. none i (omega (arith, slice_get_within source.features i f at, count));
-    clean = λ j fault low. absurd (omega arith);
-  }
-
   pub chooses_all : (k : ℕ) (chosen : List Bool) → length pieces ≤ k → ChoosesFirst source pieces k chosen → HasNoPieceFault source pieces × (chosen ≡ choosing source pieces)
   chooses_all k chosen past h = (
     (λ j fault stands. h.clean j fault (omega (arith, fault_within j fault stands)) stands),

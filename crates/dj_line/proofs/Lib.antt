@@ -1,5 +1,4 @@
 pub mod Lists
-pub mod Counting
 pub mod AcceptedLines
 pub mod FormulaOf
 pub mod NumberNamed

@@ -16,7 +16,7 @@ use Rattle.dj_line.specs.declared.tables.Placing.{Placing}
 use Rattle.dj_line.specs.Numbering.{StandOnce, number_by, IsPlaced}
 use Rattle.dj_line.specs.Placing.{StandsIn}
 use Rattle.dj_line.proofs.AcceptedLines.{features_once, deltas_once, item_has_delta}
-use Rattle.dj_line.proofs.Counting.{got_within}
+use Rattle.dj_calculus.proofs.Counting.{got_within}
 use Rattle.dj_line.proofs.Bridge.{same_number, item_known, mapped_at}
 
 module _ (s : Source) (accepted : IsAccepted (plain_source s)) where

@@ -28,7 +28,7 @@ use Rattle.dj_line.specs.declared.errors.OrderError.{OrderError}
 use Rattle.dj_line.specs.declared.errors.OrderError.TheVariants.{UnknownDelta, NotAllowed, NoMemory}
 use Rattle.dj_line.proofs.AcceptedLines.{numbers_below, number_below, one_named}
 use Rattle.dj_line.proofs.ActiveOrders.{active_part, all_append, all_filter}
-use Rattle.dj_line.proofs.Counting.{got_within, number_in}
+use Rattle.dj_calculus.proofs.Counting.{got_within, number_in}
 use Rattle.dj_line.proofs.DeltaNumbers.{number_of_delta}
 use Rattle.dj_line.proofs.Lists.{take_one_more, not_below}
 use Rattle.dj_line.proofs.PartItems.{part_items}
@@ -57,9 +57,6 @@ in_order list lists rest same later = subst (InOrder (list ∷ lists)) (take-app
 pub record Decides (all lists : List (List ℕ)) (deltas rest : List ℕ) : Type 0 where
   pub down : InOrder lists rest → InOrder all deltas
   pub up : InOrder all deltas → InOrder lists rest
-
-pub at_start : (all : List (List ℕ)) (deltas : List ℕ) → Decides all all deltas deltas
-at_start all deltas = record { down = λ h. h; up = λ h. h }
 
 -- the lists from this number on
 pub from_here : {X : Type 0} (xs : List X) (k : ℕ) (x : X) → slice_get xs k ≡ Some x → drop k xs ≡ x ∷ drop (k + 1) xs
@@ -240,9 +237,6 @@ module _ (source : Source) (accepted : IsAccepted source) where
 
     -- the order that these numbers stand for is allowed where the numbers are in order
     module _ (ns : List ℕ) (below : All (λ n. n < length source.deltas) ns) where
-      along_is : active_along source c ≡ map (filter (is_active source c)) (map (numbers_of source) (chain source))
-      along_is = refl
-
       pub allowed_down : InOrder (active_along source c) ns → IsAllowed source c (plain_order source ns)
       allowed_down h = subst (λ ds. AllowedAlong source c (chain source) ds) (sym (order_map ns below)) (numbers_allowed (chain source) ns (λ p has. has) h)
 

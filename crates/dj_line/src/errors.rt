@@ -3,7 +3,6 @@ ghost use Rattle.std.specs.Prelude.{◌≡◌};
 ghost use Rattle.dj_line.specs.declared.errors.LineError.TheVariants.{NoMemory as no_memory_for_line};
 ghost use Rattle.dj_line.specs.declared.errors.ConfigError.TheVariants.{NoMemory as no_memory_for_config};
 ghost use Rattle.dj_line.specs.declared.errors.OrderError.TheVariants.{NoMemory as no_memory_for_order};
-ghost use Rattle.dj_line.specs.declared.errors.OrderError.TheVariants.{NoMemory as no_memory_for_order};
 
 use dj_faults::LineFault;
 use std::alloc::AllocError;

@@ -1,5 +1,5 @@
 //! Orders from words.
-ghost use Rattle.std.specs.Prelude.{◌≡◌, ◌≢◌, ◌↔◌, ◌<◌, ℕ, List, map, length, All, IfOk, IsOk, MatchResult, MatchBool};
+ghost use Rattle.std.specs.Prelude.{◌≡◌, ◌≢◌, ◌↔◌, ◌<◌, List, map, length, IfOk, IsOk, MatchResult, MatchBool};
 ghost use Rattle.std.specs.List.Sorted.{IsPermutation};
 ghost use Rattle.dj_tree.specs.Trees.{Delta};
 ghost use Rattle.dj_calculus.specs.Products.{OrderFault, OrderWord, OrderWordFault};

@@ -5,7 +5,7 @@
 -- | what was read is in post-order | formula_order, expr_order |
 -- | how many nodes the tree has | formula_size, expr_size |
 -- | which nodes it has, the root last | formula_nodes, expr_nodes |
-use Rattle.std.proofs.Common.{◌≡◌, ℕ, suc, ◌+◌, List, [], ◌∷◌, ◌++◌, length, map, drop, refl, sym, ap, ap₂, ◌∙◌, append_assoc, arith}
+use Rattle.std.proofs.Common.{◌≡◌, ℕ, suc, ◌+◌, List, [], ◌∷◌, ◌++◌, length, map, refl, sym, ap, ap₂, ◌∙◌, append_assoc, arith}
 use Rattle.std.specs.Prelude.{slice_get, unwrap_or}
 use Rattle.std.proofs.lemmas.List.{append-nil, map-append, length-map}
 use Rattle.arena_walk.specs.Tree.{Tree, Trees, branch, no_trees, tree_and, trees_of, list_of, over, size, nodes, nodes_each, EachNode, EachNodeOf, fold_each}
@@ -14,9 +14,7 @@ use Rattle.arena_walk.proofs.TreeLemmas.{length-nodes}
 use Rattle.arena_walk.proofs.Visitors.{trees-nodes, list_of-trees_of}
 use Rattle.dj_lexer.specs.Symbols.{Symbol}
 use Rattle.dj_lexer.specs.declared.token.Dialect.{Dialect}
-use Rattle.dj_tree.specs.Trees.{Formula, FormulaForm, always, Expr, ExprForm, null_at}
-use Rattle.dj_tree.specs.FormulaGrammar as grammar
-use Rattle.dj_tree.specs.FormulaGrammar.{FormulaLevel, SpellsAt}
+use Rattle.dj_tree.specs.Trees.{Formula, FormulaForm, always, Expr, ExprForm}
 use Rattle.dj_tree.specs.Plain.{in_form}
 use Rattle.dj_formula_reader.specs.declared.machine.FormulaMark.{FormulaMark}
 use Rattle.dj_formula_reader.specs.declared.machine.FormulaMark.TheVariants as formula
@@ -24,8 +22,10 @@ use Rattle.dj_formula_reader.specs.Laws.{parts, formula_of, SpellsNodes}
 use Rattle.dj_formula_reader.specs.View.{form_of, forms_of}
 use Rattle.dj_expr_reader.specs.declared.machine.ExprMark.{ExprMark}
 use Rattle.dj_expr_reader.specs.declared.machine.ExprMark.TheVariants as expr
-use Rattle.dj_expr_reader.specs.Marks.{Mark, marks_of, marks_each, gather, grow, expr_of, SpellsMarks}
+use Rattle.dj_expr_reader.specs.Marks.{Mark, marks_of, marks_each, expr_of, SpellsMarks}
 use Rattle.dj_expr_reader.specs.View.{plain_mark, plain_marks}
+use Rattle.dj_expr_reader.proofs.OneExpression.{expr_of_marks}
+use Rattle.dj_formula_reader.proofs.OneFormula.{each_operator}
 use Rattle.dj_nodes.specs.PostOrder.{finished, formula_arity, expr_arity, IsFormulaOrder, IsExprOrder}
 use Rattle.dj_nodes.proofs.Orders.{finished_more, tree_of, order_of_nodes}
 
@@ -93,27 +93,9 @@ pub formula_size : (bytes : List ℕ) (marks : List FormulaMark) → IsFormulaOr
 formula_size bytes marks order =
     sym (length-nodes (formula_of (forms_of bytes marks))) ∙ ap length (formula_nodes bytes marks order) ∙ length-map marks (form_of bytes)
 
--- each operator that the grammar spells has as many parts as it takes
-each : {l : FormulaLevel} {s : List Symbol} {a : Formula} → SpellsAt l s a → (first : ℕ) → EachNode (λ u _. HasArity parts u) first a
-each (grammar.same {a = a} at x y) first = ((each x first, (each y (first + size a), tt)), refl)
-each (grammar.one_implies x) first = each x first
-each (grammar.implies {a = a} at x y) first = ((each x first, (each y (first + size a), tt)), refl)
-each (grammar.one_or x) first = each x first
-each (grammar.or {a = a} at x y) first = ((each x first, (each y (first + size a), tt)), refl)
-each (grammar.or_doubled {a = a} at x y) first = ((each x first, (each y (first + size a), tt)), refl)
-each (grammar.one_and x) first = each x first
-each (grammar.and {a = a} at x y) first = ((each x first, (each y (first + size a), tt)), refl)
-each (grammar.and_doubled {a = a} at x y) first = ((each x first, (each y (first + size a), tt)), refl)
-each (grammar.one_not x) first = each x first
-each (grammar.not at x) first = ((each x first, tt), refl)
-each (grammar.true_word at) first = (tt, refl)
-each (grammar.false_word at) first = (tt, refl)
-each (grammar.feature_name x i) first = (tt, refl)
-each (grammar.in_parentheses o c x) first = each x first
-
 pub formula_order : (bytes : List ℕ) (symbols : List Symbol) (marks : List FormulaMark) → SpellsNodes symbols (forms_of bytes marks) → IsFormulaOrder marks
 formula_order bytes symbols marks p =
-    ap (finished 0) (formula_arities bytes marks ∙ ap (map parts) p.same) ∙ order_of_nodes parts 0 p.value (each p.spelled 0)
+    ap (finished 0) (formula_arities bytes marks ∙ ap (map parts) p.same) ∙ order_of_nodes parts 0 p.value (each_operator p.spelled 0)
 
 -- ---- expressions
 
@@ -123,53 +105,6 @@ form mark = mark.0
 
 abbrev pub width : Mark → ℕ
 width mark = mark.1
-
--- The expression of a list of marks is made with a stack, the last tree first.
-abbrev pushed : Trees ExprForm → List Expr → List Expr
-pushed no_trees stack = stack
-pushed (tree_and e es) stack = pushed es (e ∷ stack)
-
-abbrev joined : Trees ExprForm → Trees ExprForm → Trees ExprForm
-joined no_trees others = others
-joined (tree_and e es) others = tree_and e (joined es others)
-
-joined_none : (es : Trees ExprForm) → joined es no_trees ≡ es
-joined_none no_trees = refl
-joined_none (tree_and e es) = ap (tree_and e) (joined_none es)
-
-gathered : (es : Trees ExprForm) (n : ℕ) (stack : List Expr) (others : Trees ExprForm) → gather (length (list_of es) + n) (pushed es stack) others ≡ gather n stack (joined es others)
-gathered no_trees n stack others = ap (λ k. gather k stack others) (omega arith)
-gathered (tree_and e es) n stack others =
-    let moved : length (list_of (tree_and e es)) + n ≡ length (list_of es) + suc n = omega arith in
-    ap (λ k. gather k (pushed es (e ∷ stack)) others) moved ∙ gathered es (suc n) (e ∷ stack) others
-
-dropped : (es : Trees ExprForm) (n : ℕ) (stack : List Expr) → drop (length (list_of es) + n) (pushed es stack) ≡ drop n stack
-dropped no_trees n stack = ap (λ k. drop k stack) (omega arith)
-dropped (tree_and e es) n stack =
-    let moved : length (list_of (tree_and e es)) + n ≡ length (list_of es) + suc n = omega arith in
-    ap (λ k. drop k (pushed es (e ∷ stack))) moved ∙ dropped es (suc n) (e ∷ stack)
-
-taken_off : (form : ExprForm) (es : Trees ExprForm) (stack : List Expr)
-    → branch form (gather (length (list_of es)) (pushed es stack) no_trees) ∷ drop (length (list_of es)) (pushed es stack) ≡ branch form es ∷ stack
-taken_off form es stack =
-    let none_more : length (list_of es) ≡ length (list_of es) + 0 = omega arith in
-    ap₂ (λ k l. branch form k ∷ l) (ap (λ k. gather k (pushed es stack) no_trees) none_more ∙ gathered es 0 stack no_trees ∙ joined_none es)
-    (ap (λ k. drop k (pushed es stack)) none_more ∙ dropped es 0 stack)
-
-mutual
-  grown : (e : Expr) (marks : List Mark) (stack : List Expr) → grow (marks_of e ++ marks) stack ≡ grow marks (e ∷ stack)
-  grown (branch form es) marks stack =
-      ap (λ l. grow l stack) (append_assoc (marks_each es) ((form, length (list_of es)) ∷ []) marks) ∙ grown_each es ((form, length (list_of es)) ∷ marks) stack
-      ∙ ap (grow marks) (taken_off form es stack)
-
-  grown_each : (es : Trees ExprForm) (marks : List Mark) (stack : List Expr) → grow (marks_each es ++ marks) stack ≡ grow marks (pushed es stack)
-  grown_each no_trees marks stack = refl
-  grown_each (tree_and e es) marks stack =
-      ap (λ l. grow l stack) (append_assoc (marks_of e) (marks_each es) marks) ∙ grown e (marks_each es ++ marks) stack ∙ grown_each es marks (e ∷ stack)
-
-expr_of_marks : (e : Expr) → expr_of (marks_of e) ≡ e
-expr_of_marks e =
-    ap (λ l. unwrap_or (slice_get (grow l []) 0) (null_at 0)) (sym (append-nil (marks_of e))) ∙ ap (λ (l : List Expr). unwrap_or (slice_get l 0) (null_at 0)) (grown e [] [])
 
 -- the marks of a tree in its form
 module _ {N : Type 0} (form_of_node : N → ExprForm) (arity : N → ℕ) where

@@ -20,7 +20,7 @@ use Rattle.dj_tree.specs.Repeats.{Many, none, more, AfterComma, after_comma, Lis
 use Rattle.dj_tree.specs.ClassGrammar as classes
 use Rattle.dj_tree.specs.ClassGrammar.{SpellsTyped, typed, SpellsMethod, Member, field_member, method_member, SpellsMember, fields_of, methods_of, SpellsOptional, omitted, given, SpellsClass}
 use Rattle.dj_tree.specs.LineGrammar as lines
-use Rattle.dj_tree.specs.LineGrammar.{adds_member, SpellsMemberOperation, SpellsOperation, SpellsDelta, SpellsCondition, SpellsItem, SpellsPart, SpellsName, SpellsSource}
+use Rattle.dj_tree.specs.LineGrammar.{adds_member, SpellsMemberOperation, SpellsOperation, SpellsDelta, SpellsCondition, SpellsItem, SpellsPart, SpellsName}
 use Rattle.dj_tree.specs.Spells.{Spells}
 use Rattle.dj_parser.specs.Said.{said_each, said_spot, said_optional, said_trees, expr_text, said_formula, said_expr, said_field, said_method, said_class, said_member, said_operation, said_delta, said_condition, said_item, said_part, said_source}
 use Rattle.dj_parser.proofs.SaidLemmas.{IsSaid, All-front, All-back, silence, here, blank, both, turned, silent, before}

@@ -3,7 +3,7 @@ ghost use Rattle.std.specs.Prelude.{List, [], ◌∷◌, ◌++◌, map, IfOk, On
 ghost use Rattle.dj_tree.specs.ClassGrammar.{fields_of, methods_of};
 ghost use Rattle.dj_tree.specs.Trees as plain;
 ghost use Rattle.dj_declarations.specs.View.{member_view};
-ghost use Rattle.dj_parser.specs.Said.{said_each, said_field, said_method, said_optional};
+ghost use Rattle.dj_parser.specs.Said.{said_each, said_field, said_method};
 ghost use Rattle.dj_parser.specs.Growth.{CanSay, Grew, Lasts};
 ghost use Rattle.dj_parser.specs.Resolved.{AreFieldsFor, AreMethodsFor};
 

@@ -1,11 +1,10 @@
 //! Whole files.
-ghost use Rattle.std.specs.Prelude.{◌≡◌, ◌+◌, ◌-◌, ◌^◌, ◌<◌, [], length, map, All, IfOk};
+ghost use Rattle.std.specs.Prelude.{◌≡◌, ◌-◌, ◌^◌, ◌<◌, length, map, All, IfOk};
 ghost use Rattle.std.specs.Str.{IsUtf8};
 ghost use Rattle.dj_tree.specs.Plain.{plain_source, plain_java};
 ghost use Rattle.dj_tree.specs.WellFormed.{IsWellFormed, IsWellFormedJava};
 ghost use Rattle.dj_declarations.specs.View.{source_view, class_view};
 ghost use Rattle.dj_parser.specs.Said.{said_each, said_source, said_class};
-ghost use Rattle.dj_parser.specs.Growth.{CanSay};
 
 use crate::leaves::{resolve_formula, resolve_spot};
 use crate::resolve::resolve_each;

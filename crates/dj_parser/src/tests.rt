@@ -4,7 +4,7 @@ ghost use Rattle.dj_tree.specs.WellFormed.{IsWellFormed, IsWellFormedJava};
 
 use super::*;
 use arena_walk::NodeId;
-use dj_lexer::{Dialect, MAX_LENGTH, Tokens, lex};
+use dj_lexer::{Dialect, MAX_LENGTH, lex};
 use dj_names::Names;
 use dj_tree::{ExprNode, FormulaNode, JavaSource, Source, Spot};
 use std::alloc::{AllocError, Global};

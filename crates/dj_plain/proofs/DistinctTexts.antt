@@ -1,9 +1,8 @@
 -- Texts that a table keeps, and texts that differ.
-use Rattle.std.proofs.Common.{◌≡◌, ℕ, ◌+◌, ◌<◌, ◌≤◌, Bool, true, false, not, ◌&&◌, ◌||◌, cond, List, [], ◌∷◌, ◌++◌, length, map, take, drop, get_or, Bor, refl, sym, ap, ◌∙◌, append_assoc}
-use Rattle.std.specs.Prelude.{position}
-use Rattle.std.specs.List.{list_any, list_all, prefix_len}
+use Rattle.std.proofs.Common.{◌≡◌, ℕ, ◌+◌, ◌<◌, Bool, true, false, not, ◌&&◌, ◌||◌, cond, List, [], ◌∷◌, ◌++◌, length, map, take, drop, get_or, Bor, refl, sym, ap, ◌∙◌, append_assoc}
+use Rattle.std.specs.List.{list_any, list_all}
 use Rattle.std.specs.Str.{bytes_eq}
-use Rattle.std.proofs.lemmas.List.{take_more, take_all, map_push, map-append, take-append-drop, length-map}
+use Rattle.std.proofs.lemmas.List.{take_more, map_push, map-append, take-append-drop}
 use Rattle.std.proofs.lemmas.List.Folds.{list_any-append, list_all-append}
 use Rattle.std.proofs.lemmas.Cmp.{nat_list_eq_equiv}
 use Rattle.dj_plain.specs.Plain.{contains, are_distinct}
@@ -12,13 +11,6 @@ use Rattle.dj_plain.specs.Plain.{contains, are_distinct}
 pub keys_any : (q : List ℕ) (ks : List (Bor (List ℕ))) → list_any (λ k. bytes_eq q k.now) ks ≡ contains (map (λ k. k.now) ks) q
 keys_any q [] = refl
 keys_any q (k ∷ ks) = ap (λ (b : Bool). bytes_eq q k.now || b) (keys_any q ks)
-
-keys_prefix : (q : List ℕ) (ks : List (Bor (List ℕ))) → prefix_len (λ k. not (bytes_eq q k.now)) ks ≡ prefix_len (λ x. not (bytes_eq q x)) (map (λ k. k.now) ks)
-keys_prefix q [] = refl
-keys_prefix q (k ∷ ks) = ap (λ (n : ℕ). cond (not (bytes_eq q k.now)) (1 + n) 0) (keys_prefix q ks)
-
-pub keys_position : (q : List ℕ) (ks : List (Bor (List ℕ))) → position (λ k. bytes_eq q k.now) ks ≡ position (bytes_eq q) (map (λ k. k.now) ks)
-keys_position q ks = rw (keys_prefix q ks) (simp length-map)
 
 -- the keys with a new one at the end
 pub keys_grown : (ks new : List (Bor (List ℕ))) (k : Bor (List ℕ)) → new ≡ cond (list_any (λ x. bytes_eq k.now x.now) ks) ks (ks ++ k ∷ []) → list_any (λ x. bytes_eq k.now x.now) ks ≡ false
@@ -88,9 +80,6 @@ and_false : (b : Bool) → (b && false) ≡ false
 and_false true = refl
 and_false false = refl
 
-pub all_more : {X Y : Type 0} (p : Y → Bool) (f : X → Y) (xs : List X) (i : ℕ) (d : X) → i < length xs → list_all p (map f (take i xs)) ≡ true → p (f (get_or xs i d)) ≡ true → list_all p (map f (take (i + 1) xs)) ≡ true
-all_more p f xs i d h so_far here = rw (map_more f xs i d h, list_all-append p (map f (take i xs)) (f (get_or xs i d) ∷ []), so_far, here) refl
-
 pub all_fails : {X Y : Type 0} (p : Y → Bool) (f : X → Y) (xs : List X) (i : ℕ) (d : X) → i < length xs → p (f (get_or xs i d)) ≡ false → list_all p (map f xs) ≡ false
 all_fails {X = X} {Y = Y} p f xs i d h here =
     let whole : map f (take i xs) ++ f (get_or xs i d) ∷ map f (drop (i + 1) xs) ≡ map f xs =
@@ -98,9 +87,6 @@ all_fails {X = X} {Y = Y} p f xs i d h here =
     ∙ ap (λ (ys : List Y). ys ++ map f (drop (i + 1) xs)) (sym (map_more f xs i d h))
     ∙ sym (map-append f (take (i + 1) xs) (drop (i + 1) xs)) ∙ ap (map f) (take-append-drop (i + 1) xs) in
     rw (← whole, list_all-append p (map f (take i xs)) (f (get_or xs i d) ∷ map f (drop (i + 1) xs)), here) (and_false (list_all p (map f (take i xs))))
-
-pub all_done : {X Y : Type 0} (p : Y → Bool) (f : X → Y) (xs : List X) (i : ℕ) → length xs ≤ i → list_all p (map f (take i xs)) ≡ true → list_all p (map f xs) ≡ true
-all_done p f xs i h so_far = rw (take_all i xs h) at so_far
 
 -- ---- a text that is put into a table, or is there
 

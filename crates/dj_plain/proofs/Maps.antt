@@ -3,7 +3,7 @@ use Rattle.std.proofs.Common.{◌≡◌, ◌<◌, ◌+◌, ℕ, suc, zero, Bool,
 use Rattle.std.specs.FinMap as finite_map
 use Rattle.std.specs.FinMap.{get-insert, get-empty, same_map, slice_cmp-IsAntisymmetric, nat_cmp-IsAntisymmetric}
 use Rattle.std.specs.Str.{bytes_eq}
-use Rattle.std.proofs.lemmas.List.{map-append, map_push, take_more}
+use Rattle.std.proofs.lemmas.List.{map-append}
 use Rattle.std.proofs.lemmas.Cmp.{nat_list_cmp_total, nat_list_eq_equiv}
 use Rattle.std.proofs.lemmas.Map.Text.{is_eq-slice_cmp}
 use Rattle.std.proofs.lemmas.Slice.Eq.{bytes_eq-Decides}
@@ -93,18 +93,6 @@ module _ {A : Type 0} (name : A → Text) where
 pub maps : {A B C : Type 0} (f : A → B) (g : B → C) (xs : List A) → map g (map f xs) ≡ map (λ x. g (f x)) xs
 maps f g [] = refl
 maps f g (x ∷ xs) = ap (λ ys. g (f x) ∷ ys) (maps f g xs)
-
--- the same of what is made of elements
-pub name_not_before : {A B : Type 0} (f : A → B) (name : B → Text) (xs : List A) (i : ℕ) (x : A) → are_distinct (map name (map f xs)) ≡ true → i < length xs → x ≡ get_or xs i x → contains (map name (map f (take i xs))) (name (f x)) ≡ false
-name_not_before f name xs i x distinct inside is =
-    ap (λ (names : List Text). contains names (name (f x))) (maps f name (take i xs))
-    ∙ ap (λ y. contains (map (λ z. name (f z)) (take i xs)) (name (f y))) is
-    ∙ not_before (λ z. name (f z)) xs i x (ap are_distinct (sym (maps f name xs)) ∙ distinct) inside
-
--- ---- one element more
-
-pub mapped_more : {A B : Type 0} (f : A → B) (xs : List A) (i : ℕ) (x : A) → i < length xs → x ≡ get_or xs i x → map f (take (i + 1) xs) ≡ map f (take i xs) ++ f x ∷ []
-mapped_more f xs i x inside is = ap (map f) (take_more xs i x inside) ∙ map_push f (take i xs) (get_or xs i x) ∙ ap (λ y. map f (take i xs) ++ f y ∷ []) (sym is)
 
 -- ---- fields of a class
 

@@ -1,5 +1,5 @@
 //! Tokens by their places.
-ghost use Rattle.std.specs.Prelude.{◌<◌, ◌≤◌, ℕ, ◌≡◌, List, length, slice_range, IfOk, All, Contains};
+ghost use Rattle.std.specs.Prelude.{◌<◌, ◌≤◌, ◌≡◌, length, slice_range, IfOk, All, Contains};
 ghost use Rattle.dj_names.specs.Texts.{Text};
 ghost use Rattle.dj_lexer.specs.Tokens.{TokenList};
 ghost use Rattle.dj_lexer.specs.Symbols.{symbols_of, greatest_depth};

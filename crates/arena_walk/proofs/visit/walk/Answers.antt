@@ -14,7 +14,7 @@ loop-number-init g c =
     let ns = c.args.arena.now in
     let root = c.args.root.0 in
     let v = c.args.visitor.now in
-    let first = c.first-number.result in
+    let first = c.first-number.result.0 in
     record {
       grew = g.met.V.Visit.grew_reflexive v;
       along = λ t is.
@@ -54,7 +54,7 @@ pub returns-in_err-visit_node-clause-visited_some : goal.returns-in_err-visit_no
 returns-in_err-visit_node-clause-visited_some g c =
     OnErr-always c.from_residual.result _ (λ t is.
     let root = c.args.root.0 in
-    let first = same_first g.N.Shape.arity_of c.args.arena.now root c.first-number.result t is c.first-number.ensures.tree in
+    let first = same_first g.N.Shape.arity_of c.args.arena.now root c.first-number.result.0 t is c.first-number.ensures.tree in
     let within = size_within g.N.Shape.arity_of c.args.arena.now root t is in (
       c.loop-number.number + 1 - first_number root t,
       omega arith,
@@ -83,7 +83,7 @@ loop-number-preserved g c =
           (λ u o. g.met.V.Visit.still_stands v w u o c.visit_node.ensures.grew)
           (λ kids stand admitted. done.2 kids stand (g.met.V.Visit.still_admits c.args.visitor.now v (over n kids) at c.loop-number.invariant.grew admitted)));
       told = λ t is.
-          let first = same_first arity ns root c.first-number.result t is c.first-number.ensures.tree in
+          let first = same_first arity ns root c.first-number.result.0 t is c.first-number.ensures.tree in
           let within = size_within arity ns root t is in
           told_more (g.V.Visit.visited c.args.visitor.now) (g.V.Visit.visited v) (g.V.Visit.visited w) (first_number root t) at t (omega arith) (omega arith)
           (c.loop-number.invariant.told t is) c.visit_node.ensures.appended;

@@ -1,5 +1,7 @@
 use Rattle.std.proofs.Common.{◌+◌, ◌-◌, ◌∙◌, take, drop, refl, false, length-take, length-drop, arith}
 use Rattle.std.proofs.lemmas.List.{length-set}
+use Rattle.arena_walk.proofs.SlotLemmas.{same_first}
+use Rattle.dj_formula.specs.Gates.{operands}
 use Rattle.dj_formula.proofs.Stack.{stand_first, stand_next, stand_last, operands_stand, gate_is_below}
 use Rattle.dj_formula.proofs.Trees.{has_value}
 use Rattle.dj_formula.proofs.evaluation.eval_in.Goals as goal
@@ -7,11 +9,11 @@ use Rattle.dj_formula.proofs.evaluation.eval_in.Goals as goal
 pub loop-number-init : goal.loop-number-init
 loop-number-init c =
     let f = c.args.formula.now in
-    let first = c.first_node-first in
+    let first = c.first-first in
     record {
       same_length = refl;
       few = omega arith;
-      values = λ t is. stand_first c.args.chosen.now f.nodes f.root.0 t first.result.0 _ (first.ensures.number t is) refl is (first.ensures.whole t is) (c.requires.known t is);
+      values = λ t is. stand_first c.args.chosen.now f.nodes f.root.0 t first.result.0 _ (same_first operands f.nodes f.root.0 _ t is first.ensures.tree) refl is (first.ensures.whole t is) (c.requires.known t is);
     }
 
 pub overflow_sub-start : goal.overflow_sub-start

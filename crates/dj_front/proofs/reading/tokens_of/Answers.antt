@@ -1,4 +1,4 @@
-use Rattle.std.proofs.Common.{ap, Err, rules}
+use Rattle.std.proofs.Common.{ap, Err}
 use Rattle.dj_front.proofs.Stages.{lex_refused}
 use Rattle.dj_front.proofs.reading.tokens_of.Goals as goal
 

@@ -1,6 +1,7 @@
 use Rattle.std.proofs.Common.{◌≡◌, ◌+◌, Some, [], ◌∷◌, map, length, ap, ◌∙◌, length-append, length-take, arith}
 use Rattle.arena_walk.specs.Tree.{over}
 use Rattle.arena_walk.specs.Forest.{trees}
+use Rattle.arena_walk.proofs.SlotLemmas.{same_first}
 use Rattle.arena_walk.proofs.Visitors.{trees-nil}
 use Rattle.dj_tree.specs.Arities.{formula_arity}
 use Rattle.dj_tree.specs.Plain.{plain_source, plain_spot}
@@ -24,8 +25,8 @@ loop-number-init c =
     let s = c.args.source.now in
     record {
       few = omega (arith, ap length c.new-nodes.ensures);
-      pushed = λ t is. pushed_first (gate_in s) s.formulas c.args.root.0 t c.first_node-first.result.0 _ (c.first_node-first.ensures.number t is)
-          (ap (trees operands) c.new-nodes.ensures ∙ trees-nil operands) is (c.first_node-first.ensures.whole t is);
+      pushed = λ t is. pushed_first (gate_in s) s.formulas c.args.root.0 t c.first-first.result.0 _ (same_first formula_arity s.formulas c.args.root.0 _ t is c.first-first.ensures.tree)
+          (ap (trees operands) c.new-nodes.ensures ∙ trees-nil operands) is (c.first-first.ensures.whole t is);
     }
 
 pub push-requires-clause-enough : goal.push-requires-clause-enough

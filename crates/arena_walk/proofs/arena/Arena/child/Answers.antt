@@ -22,7 +22,7 @@ overflow_sub-child-in-loop g c =
     let is = c.get.ensures.tree.2 in
     let j = c.loop.counter - (c.args.k + 1) in
     let this = child_behind g.N.Shape.arity_of c.args.self.now c.args.at.0 node kids j c.loop.child is (omega (arith, c.get.ensures.tree.1)) (c.loop.invariant node kids is) in
-    let first = same_first g.N.Shape.arity_of c.args.self.now c.loop.child c.first-child.result this.0 this.1 c.first-child.ensures.tree in
+    let first = same_first g.N.Shape.arity_of c.args.self.now c.loop.child c.first-child.result.0 this.0 this.1 c.first-child.ensures.tree in
     omega (arith, first, room_before g.N.Shape.arity_of c.args.self.now c.args.at.0 node kids (j + 1) _ is (omega (arith, c.get.ensures.tree.1)) this.2)
 
 pub loop-preserved : goal.loop-preserved
@@ -30,7 +30,7 @@ loop-preserved g c = λ node kids is.
     let same = same_children g.N.Shape.arity_of c.args.self.now c.args.at.0 c.get.result.now node c.get.ensures.tree.0 kids c.get.ensures.tree.2 is in
     let j = c.loop.counter - (c.args.k + 1) in
     let this = child_behind g.N.Shape.arity_of c.args.self.now c.args.at.0 node kids j c.loop.child is (omega (arith, c.get.ensures.tree.1)) (c.loop.invariant node kids is) in
-    let first = same_first g.N.Shape.arity_of c.args.self.now c.loop.child c.first-child.result this.0 this.1 c.first-child.ensures.tree in
+    let first = same_first g.N.Shape.arity_of c.args.self.now c.loop.child c.first-child.result.0 this.0 this.1 c.first-child.ensures.tree in
     omega (arith, first, this.2, overflow_sub-child-in-loop g c, behind_at kids (length kids - (c.loop.counter + 1 - (c.args.k + 1))) (length kids - (j + 1)) (omega arith))
 
 pub returns-clause-number : goal.returns-clause-number
