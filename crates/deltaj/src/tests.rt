@@ -163,7 +163,19 @@ fn lines_are_generated_or_refused(rt: HostRuntime) -> Result<(), Fail> {
         ),
         (
             "line L { features; valid true; part a { P; } part b after a { Q; R; } }\ndelta P { adds class C { } }\ndelta Q { modifies class C { adds C b; } }\ndelta R { modifies class C { adds C a; } }\n",
+            "generate f - P,R,Q",
+            "not built\n",
+            Status::NOT_BUILT,
+        ),
+        (
+            "line L { features; valid true; part a { P; } part b after a { Q; R; } }\ndelta P { adds class C { } }\ndelta Q { modifies class C { adds C b; } }\ndelta R { modifies class C { adds C a; } }\n",
             "generate f - Q,P,R",
+            "order refused: not allowed\n",
+            Status::WORD_REFUSED,
+        ),
+        (
+            "line L { features; valid true; part a { P; } part b after a { Q; R; } }\ndelta P { adds class C { } }\ndelta Q { modifies class C { adds C b; } }\ndelta R { modifies class C { adds C a; } }\n",
+            "generate f - P,Q",
             "order refused: not allowed\n",
             Status::WORD_REFUSED,
         ),

@@ -256,3 +256,21 @@ fn words_choose_configurations(rt: HostRuntime) -> Result<(), Fail> {
     }
     Ok(())
 }
+
+#[test]
+fn parts_and_default_orders_are_told(rt: HostRuntime) -> Result<(), Fail> {
+    let line = line_of(&rt, rt.alloc(), SHAPES)?;
+    assert_eq!(rt; line.feature_count(), 3);
+    assert_eq!(rt; line.delta_count(), 4);
+    assert_eq!(rt; line.part_count(), 2);
+    assert!(rt; line.items(1) == [0, 1].as_slice());
+    assert!(rt; line.items(2) == [2, 3].as_slice());
+    assert_eq!(rt; line.part_of(1), 1);
+    assert_eq!(rt; line.part_of(2), 2);
+    let Ok(config) = line.config_of(rt.alloc(), "A,B") else {
+        return Err(Fail::from("no configuration"));
+    };
+    let order = line.default_order(rt.alloc(), &config)?;
+    assert!(rt; order.deltas.as_slice() == [0, 1, 2].as_slice());
+    Ok(())
+}
