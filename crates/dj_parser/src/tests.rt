@@ -8,6 +8,7 @@ use dj_lexer::{Dialect, MAX_LENGTH, lex};
 use dj_names::Names;
 use dj_tree::{ExprNode, FormulaNode, JavaSource, Source, Spot};
 use std::alloc::{AllocError, Global};
+use std::process::Abort;
 use std::test::Fail;
 
 // The product line of a text, or the place where it is refused.
@@ -225,54 +226,6 @@ fn texts_are_refused_at_places(rt: HostRuntime) -> Result<(), Fail> {
             "class A { A m() { return (x.f) = y; } }",
             Some(31),
         ),
-        // Each token of a line in turn replaced by `class`, and by `;`.
-        (Dialect::Line, "class L { features A; valid A; }", Some(0)),
-        (
-            Dialect::Line,
-            "line class { features A; valid A; }",
-            Some(5),
-        ),
-        (
-            Dialect::Line,
-            "line L class features A; valid A; }",
-            Some(7),
-        ),
-        (Dialect::Line, "line L { class A; valid A; }", Some(9)),
-        (
-            Dialect::Line,
-            "line L { features class; valid A; }",
-            Some(18),
-        ),
-        (
-            Dialect::Line,
-            "line L { features A class valid A; }",
-            Some(20),
-        ),
-        (Dialect::Line, "line L { features A; class A; }", Some(21)),
-        (
-            Dialect::Line,
-            "line L { features A; valid class; }",
-            Some(27),
-        ),
-        (
-            Dialect::Line,
-            "line L { features A; valid A class }",
-            Some(29),
-        ),
-        (
-            Dialect::Line,
-            "line L { features A; valid A; class",
-            Some(30),
-        ),
-        (Dialect::Line, "; L { features A; valid A; }", Some(0)),
-        (Dialect::Line, "line ; { features A; valid A; }", Some(5)),
-        (Dialect::Line, "line L ; features A; valid A; }", Some(7)),
-        (Dialect::Line, "line L { ; A; valid A; }", Some(9)),
-        (Dialect::Line, "line L { features ;; valid A; }", Some(19)),
-        (Dialect::Line, "line L { features A; valid A; }", None),
-        (Dialect::Line, "line L { features A; ; A; }", Some(21)),
-        (Dialect::Line, "line L { features A; valid ;; }", Some(27)),
-        (Dialect::Line, "line L { features A; valid A; ;", Some(30)),
     ];
     for (dialect, text, place) in rows {
         assert_eq!(rt; place_of(rt.alloc(), text, dialect)?, place, "{text}");
@@ -280,27 +233,120 @@ fn texts_are_refused_at_places(rt: HostRuntime) -> Result<(), Fail> {
     Ok(())
 }
 
+// The words with another in place of one of them, and a space behind each.
+fn with_word(
+    alloc: Global,
+    rows: &[(&str, Option<u32>, Option<u32>)],
+    place: usize,
+    other: &str,
+) -> Result<String, AllocError> {
+    let mut text = String::new(alloc);
+    for (at, (word, _, _)) in rows.iter().enumerate() {
+        text.push_str(if at == place { other } else { word })?;
+        text.push_str(" ")?;
+    }
+    Ok(text)
+}
+
 #[test]
-fn beginnings_lack_their_rest(rt: HostRuntime) -> Result<(), Fail> {
-    let text =
-        "line L { features A, B; valid A; part p { D when A & !B; } } delta D { adds class C extends B \
-                { C f; C m(C x, B y) { return original; } } } delta E { removes class B; }";
-    let Ok(tokens) = lex(rt.alloc(), text.as_bytes(), Dialect::Line) else {
+fn a_word_that_cannot_stand_is_refused(rt: HostRuntime) -> Result<(), Fail> {
+    // The words of a line, each with the place where the line is refused with `class` in its stead, and with `;`.
+    let rows = [
+        ("line", Some(0), Some(0)),
+        ("L", Some(5), Some(5)),
+        ("{", Some(7), Some(7)),
+        ("features", Some(9), Some(9)),
+        ("A", Some(18), Some(20)),
+        (";", Some(20), None),
+        ("valid", Some(22), Some(22)),
+        ("A", Some(28), Some(28)),
+        (";", Some(30), None),
+        ("part", Some(32), Some(32)),
+        ("p", Some(37), Some(37)),
+        ("{", Some(39), Some(39)),
+        ("D", Some(41), Some(41)),
+        (";", Some(43), None),
+        ("}", Some(45), Some(45)),
+        ("}", Some(47), Some(47)),
+        ("delta", Some(49), Some(49)),
+        ("D", Some(55), Some(55)),
+        ("{", Some(57), Some(57)),
+        ("adds", Some(59), Some(59)),
+        ("class", None, Some(64)),
+        ("C", Some(70), Some(70)),
+        ("{", Some(72), Some(72)),
+        ("}", Some(74), Some(74)),
+        ("}", Some(76), Some(76)),
+    ];
+    for (at, (word, with_class, with_semicolon)) in rows.iter().enumerate() {
+        let text = with_word(rt.alloc(), &rows, at, "class")?;
+        let place = place_of(rt.alloc(), text.as_str(), Dialect::Line)?;
+        assert_eq!(rt; place, *with_class, "class for {word} at {at}");
+        let text = with_word(rt.alloc(), &rows, at, ";")?;
+        let place = place_of(rt.alloc(), text.as_str(), Dialect::Line)?;
+        assert_eq!(rt; place, *with_semicolon, "; for {word} at {at}");
+    }
+    Ok(())
+}
+
+// Expressions with numbers: what they print and what they come to, each by features of its own.
+const EXPRESSIONS: &str = "line EPL {
+  features Lit, Add, Neg, Print, Eval;
+  valid Lit & (Print | Eval);
+  part base { BExp; }
+  part ops after base { DAdd when Add; DNeg when Neg; }
+  part print after ops { PLit when Print; PAdd when Print & Add; PNeg when Print & Neg; }
+  part eval after print { ELit when Eval; EAdd when Eval && Add; }
+}
+delta BExp {
+  adds class Größe { Größe after; Größe plus(Größe other) { return other; } }
+  adds class Exp { Exp line; }
+  adds class Lit extends Exp { Größe part; }
+}
+delta DAdd { adds class Add extends Exp { Exp left; Exp right; } }
+delta DNeg { adds class Neg extends Exp { Exp inner; } }
+delta PLit {
+  modifies class Exp { adds Exp print() { return this.line; } }
+  modifies class Lit { adds Exp print() { return this; } }
+}
+delta PAdd { modifies class Add { adds Exp print() { return this.left.print(); } } }
+delta PNeg { modifies class Neg { adds Exp print() { return this.inner.print(); } } }
+delta ELit {
+  modifies class Exp { adds Größe eval() { return null; } }
+  modifies class Lit { adds Größe eval() { return this.part; } }
+}
+delta EAdd {
+  modifies class Add { adds Größe eval() { return this.left.eval().plus(this.right.eval()); } }
+}
+";
+
+// Each beginning of a line is one up to these places, and lacks its rest elsewhere.
+fn ends_only_at(rt: &impl Abort, alloc: Global, line: &str, ends: &[u32]) -> Result<(), Fail> {
+    if line.len() > MAX_LENGTH {
+        return Err(Fail::new("too long"));
+    }
+    let Ok(tokens) = lex(alloc, line.as_bytes(), Dialect::Line) else {
         return Err(Fail::new("no tokens"));
     };
-    // The line ends at its block, and at each whole delta.
-    let ends = [60, 139, 168];
     for token in &tokens.list {
-        let front = text.get(..token.to as usize).unwrap_or("?");
+        let front = line.get(..token.to as usize).unwrap_or("?");
         let whole = ends.contains(&token.to);
         let place = if whole { None } else { Some(token.to) };
         assert_eq!(rt;
-            place_of(rt.alloc(), front, Dialect::Line)?,
+            place_of(alloc, front, Dialect::Line)?,
             place,
-            "{front}"
+            "up to {}",
+            token.to
         );
     }
     Ok(())
+}
+
+#[test]
+fn beginnings_lack_their_rest(rt: HostRuntime) -> Result<(), Fail> {
+    // The line ends at its block, and at each whole delta.
+    let ends = [316, 495, 562, 619, 757, 842, 928, 1072, 1185];
+    ends_only_at(&rt, rt.alloc(), EXPRESSIONS, &ends)
 }
 
 #[test]
