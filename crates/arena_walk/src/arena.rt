@@ -37,7 +37,7 @@ pub struct Arena<N: Shape> {
 }
 
 impl<N: Shape> Model for Arena<N> {
-    ghost use Rattle.std.specs.Prelude.{List};
+    ghost use Rattle.std.specs.Prelude.{◌≤◌, List, length};
 
     ghost Value = { List N };
 
@@ -45,7 +45,8 @@ impl<N: Shape> Model for Arena<N> {
 
     ghost view = { λ a. slot_nodes a.slots.items };
 
-    ghost invariant = { λ a. AreSound N.arity_of (slot_nodes a.slots.items) (slot_firsts a.slots.items) };
+    ghost invariant = { λ a. AreSound N.arity_of (slot_nodes a.slots.items) (slot_firsts a.slots.items)
+        × (length a.slots.items ≤ 4294967295) };
 }
 
 impl<N: Shape> Arena<N> {
@@ -126,9 +127,11 @@ impl<N: Shape> Arena<N> {
     }
 
     /// The number of the first node of a node's tree, which is its leftmost leaf. The nodes from there
-    /// to the tree's root are the tree, in post-order. It takes no memory.
+    /// to the tree's root are the tree, in post-order. An arena has at most 4,294,967,295 nodes, so there
+    /// is room for them in another one. It takes no memory.
     pub fn first(&self, at: NodeId) -> NodeId
         requires { at.0 < length self.now }
+        ensures few { length self.now ≤ 4294967295 }
         ensures tree { (tree : Tree N) × (tree_at N.arity_of self.now at.0 ≡ Some tree)
             × (result.0 ≡ first_number at.0 tree) × (result.0 ≤ at.0) }
         ensures whole { (tree : Tree N) → tree_at N.arity_of self.now at.0 ≡ Some tree

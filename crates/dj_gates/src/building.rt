@@ -32,10 +32,6 @@ pub fn formula_of(
     requires few { length source.now.features ≤ 4096 }
     ensures { IfOk result (λ formula. StandsFor (plain_source source.now) formula (plain_formula source.now.names source.now.formulas root.0)) }
 {
-    // An arena gives no node this number.
-    if root.0 == u32::MAX {
-        return Err(NoMemory);
-    }
     let first = source.formulas.first(root);
     let mut nodes = Arena::new(alloc);
     for number in first.0 as usize..root.0 as usize {

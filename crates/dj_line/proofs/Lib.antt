@@ -14,3 +14,4 @@ pub mod ActiveOrders
 pub mod PartItems
 pub mod Sorting
 pub mod OrderWords
+pub mod Rising

@@ -83,15 +83,39 @@ fn line_of(alloc: Global, source: Source, chain: &[usize]) -> Result<Line, NoMem
     requires chain { filter_map (slice_get (plain_source source).parts) chain.now ≡ chain_of_source (plain_source source) }
     ensures { IfOk result (λ line. plain_line line ≡ plain_source source) }
 {
-    // A thing named by a number of 32 bits has no more of its kind than there are such numbers.
-    if source.deltas.as_slice().len() > u32::MAX as usize || chain.len() > u32::MAX as usize {
-        return Err(NoMemory);
-    }
+    few_deltas(&source);
+    few_parts(&source);
     let features = feature_names(alloc, source.features.as_slice())?;
     let deltas = delta_names(alloc, source.deltas.as_slice())?;
     let items = chain_items(alloc, source.parts.as_slice(), chain, &deltas)?;
     let placings = chain_placings(alloc, source.parts.as_slice(), chain, &deltas)?;
     finished(alloc, source, features, deltas, items, &placings)
+}
+
+// The names of deltas stand at places that differ, so numbers of 32 bits are enough for them.
+fn few_deltas(source: &Source)
+    requires { Laid (plain_source source.now) }
+    ensures { length source.now.deltas ≤ 4294967295 }
+{
+    if let Some(delta) = source.deltas.as_slice().last() {
+        has_32_bits(delta.spot.at);
+    }
+}
+
+// And so it is with parts.
+fn few_parts(source: &Source)
+    requires { Laid (plain_source source.now) }
+    ensures { length source.now.parts ≤ 4294967295 }
+{
+    if let Some(part) = source.parts.as_slice().last() {
+        has_32_bits(part.spot.at);
+    }
+}
+
+fn has_32_bits(at: u32)
+    ensures { at ≤ 4294967295 }
+{
+    let _ = at;
 }
 
 // The numbers of the deltas of each part of the chain.

@@ -1,4 +1,4 @@
-use Rattle.std.proofs.Common.{◌≡◌, ◌∷◌, ◌++◌, [], length, ap, ◌∙◌, arith}
+use Rattle.std.proofs.Common.{◌≡◌, ◌∷◌, ◌++◌, [], length, length-append, ap, ◌∙◌, arith}
 use Rattle.arena_walk.specs.Forest.{trees, tree_at, last_trees}
 use Rattle.arena_walk.proofs.ForestLemmas.{trees-push, tree_at-push, tree_at-append, tree_at_within}
 use Rattle.arena_walk.proofs.SlotLemmas.{sound_of_push, nodes_of_push, length_slots}
@@ -7,8 +7,10 @@ use Rattle.arena_walk.proofs.arena.Arena.push.Goals.{In_ok-push}
 
 pub invariant_of-self-2 : goal.invariant_of-self-2
 unfolding last_trees
-invariant_of-self-2 g c =
-    sound_of_push g.N.Shape.arity_of c.self.inside.slots.items c.push.new.self.items record { node = c.args.node; first = c.first_of_last-first.result } c.args.self.now c.self.invariant c.in_ok-push.ensures.items c.self.view_is c.requires.enough (rw (← c.arity.ensures) c.first_of_last-first.ensures)
+invariant_of-self-2 g c = (
+  sound_of_push g.N.Shape.arity_of c.self.inside.slots.items c.push.new.self.items record { node = c.args.node; first = c.first_of_last-first.result } c.args.self.now c.self.invariant.0 c.in_ok-push.ensures.items c.self.view_is c.requires.enough (rw (← c.arity.ensures) c.first_of_last-first.ensures),
+  omega (arith, c.requires.room, length_slots c.self.inside.slots.items c.args.self.now c.self.view_is, ap length c.in_ok-push.ensures.items, length-append c.self.inside.slots.items (record { node = c.args.node; first = c.first_of_last-first.result } ∷ [])),
+)
 
 pub returns-clause-trees : goal.returns-clause-trees
 returns-clause-trees g c =
