@@ -6,10 +6,11 @@ ghost use Rattle.dj_reader.specs.Terminals.{is_the_sign};
 ghost use Rattle.dj_reader.specs.Combining.{mapped, until, comma_and, listing};
 ghost use Rattle.dj_declarations.specs.Readings.{typed_reading, parameters_reading, body_reading, rest_reading, method_reading, member_reading};
 ghost use Rattle.dj_expr_reader.specs.Laws.{expr_trees};
+ghost use Rattle.dj_declarations.specs.Taking.{Takes};
 ghost use Rattle.dj_declarations.specs.View.{field_view, expr_view, rest_view, method_view, member_view};
 
 use crate::raw::{RawField, RawMember, RawMethod};
-use crate::terminals::{name, next_is_sign, sign, word};
+use crate::terminals::{Taking, name, next_is_sign, sign, word};
 use crate::trees::expression;
 use dj_expr_reader::expressions_are_read;
 use dj_lexer::{Dialect, Token};
@@ -18,8 +19,8 @@ use dj_reader::{ReadError, Reading};
 use std::alloc::Global;
 
 /// A type and a name.
-pub fn read_typed<'a>(bytes: &[u8], tokens: &'a [Token]) -> Reading<'a, RawField>
-    ensures answers { Answers bytes.now (field_view bytes.now) result (typed_reading (symbols_of bytes.now tokens.now)) }
+pub fn read_typed<'a>(bytes: &[u8], tokens: &'a [Token]) -> Taking<'a, RawField>
+    ensures answers { Takes bytes.now (field_view bytes.now) result (typed_reading (symbols_of bytes.now tokens.now)) }
     ensures fewer { IfOk result (λ x. length x.1.now ≤ length tokens.now) }
 {
     let (kind, rest) = name(bytes, tokens)?;
@@ -28,8 +29,8 @@ pub fn read_typed<'a>(bytes: &[u8], tokens: &'a [Token]) -> Reading<'a, RawField
 }
 
 /// A comma, and a type and a name.
-fn read_next_typed<'a>(bytes: &[u8], tokens: &'a [Token]) -> Reading<'a, RawField>
-    ensures answers { Answers bytes.now (field_view bytes.now) result (comma_and typed_reading (symbols_of bytes.now tokens.now)) }
+fn read_next_typed<'a>(bytes: &[u8], tokens: &'a [Token]) -> Taking<'a, RawField>
+    ensures answers { Takes bytes.now (field_view bytes.now) result (comma_and typed_reading (symbols_of bytes.now tokens.now)) }
     ensures fewer { IfOk result (λ x. length x.1.now ≤ length tokens.now) }
 {
     let (_, rest) = sign(bytes, tokens, b",")?;

@@ -10,20 +10,21 @@ ghost use Rattle.dj_reader.specs.Terminals.{is_the_sign, is_the_word};
 ghost use Rattle.dj_reader.specs.Combining.{a_word, mapped, either, until, optionally};
 ghost use Rattle.dj_declarations.specs.Readings.{behind, word_and_name as word_and_name_reading, braced, removed_reading, member_reading, method_reading, member_operation_reading, change_reading, class_reading, operation_reading};
 ghost use Rattle.dj_expr_reader.specs.Laws.{expr_trees};
+ghost use Rattle.dj_declarations.specs.Taking.{Takes};
 ghost use Rattle.dj_declarations.specs.View.{spot_at, member_op_view, change_view, class_op_view};
 
 use crate::classes::read_class;
 use crate::members::{read_member, read_method};
 use crate::raw::{RawChange, RawClassOp, RawMemberOp};
-use crate::terminals::{name, next_is_sign, next_is_word, sign, word, word_and_name};
+use crate::terminals::{Taking, name, next_is_sign, next_is_word, sign, word, word_and_name};
 use dj_expr_reader::expressions_are_read;
 use dj_lexer::{Dialect, Token};
 use dj_reader::{ReadError, Reading};
 use std::alloc::Global;
 
 /// This word, a name and `;`.
-pub fn read_removed<'a>(bytes: &[u8], tokens: &'a [Token], text: &[u8]) -> Reading<'a, Token>
-    ensures answers { Answers bytes.now (spot_at bytes.now) result (removed_reading text.now (symbols_of bytes.now tokens.now)) }
+pub fn read_removed<'a>(bytes: &[u8], tokens: &'a [Token], text: &[u8]) -> Taking<'a, Token>
+    ensures answers { Takes bytes.now (spot_at bytes.now) result (removed_reading text.now (symbols_of bytes.now tokens.now)) }
     ensures fewer { IfOk result (λ x. length x.1.now ≤ length tokens.now) }
 {
     let (_, rest) = word(bytes, tokens, text)?;
@@ -33,8 +34,8 @@ pub fn read_removed<'a>(bytes: &[u8], tokens: &'a [Token], text: &[u8]) -> Readi
 }
 
 /// `field` or `method`, a name and `;`.
-fn read_removed_member<'a>(bytes: &[u8], tokens: &'a [Token]) -> Reading<'a, RawMemberOp>
-    ensures answers { Answers bytes.now (member_op_view bytes.now) result
+fn read_removed_member<'a>(bytes: &[u8], tokens: &'a [Token]) -> Taking<'a, RawMemberOp>
+    ensures answers { Takes bytes.now (member_op_view bytes.now) result
         (either (is_the_word (codes "field")) (mapped removes_field (removed_reading (codes "field"))) (mapped removes_method (removed_reading (codes "method")))
         (symbols_of bytes.now tokens.now)) }
     ensures fewer { IfOk result (λ x. length x.1.now ≤ length tokens.now) }
@@ -96,7 +97,7 @@ pub fn read_member_op<'a>(
         return read_modified_method(alloc, bytes, tokens);
     }
     let (_, rest) = word(bytes, tokens, b"removes")?;
-    read_removed_member(bytes, rest)
+    Ok(read_removed_member(bytes, rest)?)
 }
 
 /// Operations on members, and the `}` behind them.

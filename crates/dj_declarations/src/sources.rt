@@ -7,12 +7,13 @@ ghost use Rattle.dj_reader.specs.Combining.{a_name, mapped, until, comma_and, li
 ghost use Rattle.dj_formula_reader.specs.Laws.{formula_trees};
 ghost use Rattle.dj_declarations.specs.Readings.{title_reading, features_reading, valid_reading};
 ghost use Rattle.dj_declarations.specs.Laws.{line_reading};
+ghost use Rattle.dj_declarations.specs.Taking.{Takes};
 ghost use Rattle.dj_declarations.specs.View.{spot_at, formula_view, source_view};
 
 use crate::deltas::read_deltas;
 use crate::parts::read_parts;
 use crate::raw::RawSource;
-use crate::terminals::{name, next_is_sign, sign, word};
+use crate::terminals::{Taking, name, next_is_sign, sign, word};
 use crate::trees::formula;
 use dj_lexer::Token;
 use dj_nodes::FormulaNodes;
@@ -20,8 +21,8 @@ use dj_reader::{ReadError, Reading};
 use std::alloc::Global;
 
 /// `line`, a name and `{`.
-fn read_title<'a>(bytes: &[u8], tokens: &'a [Token]) -> Reading<'a, Token>
-    ensures answers { Answers bytes.now (spot_at bytes.now) result
+fn read_title<'a>(bytes: &[u8], tokens: &'a [Token]) -> Taking<'a, Token>
+    ensures answers { Takes bytes.now (spot_at bytes.now) result
         (title_reading (symbols_of bytes.now tokens.now)) }
     ensures fewer { IfOk result (λ x. length x.1.now ≤ length tokens.now) }
 {
@@ -32,8 +33,8 @@ fn read_title<'a>(bytes: &[u8], tokens: &'a [Token]) -> Reading<'a, Token>
 }
 
 /// A comma and a name.
-fn read_next_name<'a>(bytes: &[u8], tokens: &'a [Token]) -> Reading<'a, Token>
-    ensures answers { Answers bytes.now (spot_at bytes.now) result
+fn read_next_name<'a>(bytes: &[u8], tokens: &'a [Token]) -> Taking<'a, Token>
+    ensures answers { Takes bytes.now (spot_at bytes.now) result
         (comma_and a_name (symbols_of bytes.now tokens.now)) }
     ensures fewer { IfOk result (λ x. length x.1.now ≤ length tokens.now) }
 {

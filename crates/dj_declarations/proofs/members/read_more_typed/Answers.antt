@@ -2,10 +2,12 @@ use Rattle.std.proofs.Common.{◌≡◌, [], ◌∷◌, ◌++◌, refl, sym, ◌
 use Rattle.std.proofs.lemmas.Result.{err_from_is_err_and}
 use Rattle.std.specs.Prelude.{codes}
 use Rattle.dj_lexer.specs.Symbols.{symbols_of}
+use Rattle.dj_reader.specs.Terminals.{is_the_sign}
 use Rattle.dj_reader.specs.Combining.{comma_and}
+use Rattle.dj_reader.proofs.Loops.{stops}
 use Rattle.dj_declarations.specs.Readings.{typed_reading}
 use Rattle.dj_declarations.specs.View.{field_view}
-use Rattle.dj_declarations.proofs.PieceLoops.{token_taken, piece_goes, piece_refused, pieces_close}
+use Rattle.dj_declarations.proofs.PieceLoops.{token_taken, piece_goes, pieces_close}
 use Rattle.dj_declarations.proofs.MemberLoops.{comma_shrinks}
 use Rattle.dj_declarations.proofs.members.read_more_typed.Goals as goal
 
@@ -28,7 +30,7 @@ pieces-preserved c =
 pub returns-in_err-field-clause-answers : goal.returns-in_err-field-clause-answers
 returns-in_err-field-clause-answers c =
     let p = err_from_is_err_and c.from_residual.result c.from_residual.ensures.1 in
-    rw (p.1, p.2) (piece_refused (field_view c.args.bytes.now) (codes ")") (comma_and typed_reading) comma_shrinks refl c.args.bytes.now _ _ (symbols_of c.args.bytes.now c.pieces.rest.now) _ (sym c.pieces-test.ensures) c.in_err-field.ensures.answers c.pieces.invariant.0)
+    rw (p.1, p.2) (stops (is_the_sign (codes ")")) (comma_and typed_reading) comma_shrinks refl _ (symbols_of c.args.bytes.now c.pieces.rest.now) _ _ (sym c.pieces-test.ensures) c.in_err-field.ensures.answers c.pieces.invariant.0)
 
 pub returns-clause-answers : goal.returns-clause-answers
 returns-clause-answers c =

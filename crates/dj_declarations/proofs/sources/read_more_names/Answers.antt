@@ -2,9 +2,11 @@ use Rattle.std.proofs.Common.{◌≡◌, [], ◌∷◌, ◌++◌, refl, sym, ◌
 use Rattle.std.specs.Prelude.{codes}
 use Rattle.std.proofs.lemmas.Result.{err_from_is_err_and}
 use Rattle.dj_lexer.specs.Symbols.{symbols_of}
+use Rattle.dj_reader.specs.Terminals.{is_the_sign}
 use Rattle.dj_reader.specs.Combining.{a_name, comma_and}
+use Rattle.dj_reader.proofs.Loops.{stops}
 use Rattle.dj_declarations.specs.View.{spot_at}
-use Rattle.dj_declarations.proofs.PieceLoops.{token_taken, piece_goes, piece_refused, pieces_close}
+use Rattle.dj_declarations.proofs.PieceLoops.{token_taken, piece_goes, pieces_close}
 use Rattle.dj_declarations.proofs.PartLoops.{name_shrinks}
 use Rattle.dj_declarations.proofs.sources.read_more_names.Goals as goal
 
@@ -27,8 +29,7 @@ pieces-preserved c =
 pub returns-in_err-name-clause-answers : goal.returns-in_err-name-clause-answers
 returns-in_err-name-clause-answers c =
     let p = err_from_is_err_and c.from_residual.result c.from_residual.ensures.1 in
-    rw (p.1, p.2) (piece_refused (spot_at c.args.bytes.now) (codes ";") (comma_and a_name) name_shrinks refl c.args.bytes.now _ _
-    (symbols_of c.args.bytes.now c.pieces.rest.now) _ (sym c.pieces-test.ensures) c.in_err-name.ensures.answers c.pieces.invariant.0)
+    rw (p.1, p.2) (stops (is_the_sign (codes ";")) (comma_and a_name) name_shrinks refl _ (symbols_of c.args.bytes.now c.pieces.rest.now) _ _ (sym c.pieces-test.ensures) c.in_err-name.ensures.answers c.pieces.invariant.0)
 
 pub returns-clause-answers : goal.returns-clause-answers
 returns-clause-answers c =
