@@ -8,7 +8,7 @@ use Rattle.sat_clauses.specs.Literals.{opposite}
 use Rattle.sat_clauses.specs.ClauseLists.{has, resolvent}
 use Rattle.sat_clauses.specs.Derivations.{Resolution, Leads, Chain, Makes, Follow, Derives}
 use Rattle.derivation_checker.specs.declared.fault.StepFault.{StepFault}
-use Rattle.derivation_checker.specs.declared.fault.StepFault.TheVariants.{NotEmpty, NoSteps}
+use Rattle.derivation_checker.specs.declared.fault.StepFault.TheVariants.{NotEmpty}
 use Rattle.derivation_checker.specs.declared.fault.CheckError.{CheckError}
 use Rattle.derivation_checker.specs.declared.fault.CheckError.TheVariants.{Fault, NoMemory}
 use Rattle.derivation_checker.specs.Faults.{IfFault, LinkHasFault, ChainHasFault, StepHasFault, StepsHaveFault, FirstFault}
@@ -160,11 +160,6 @@ pub first_of_steps : (clauses : List (List Lit)) (steps : List Resolution) (faul
 first_of_steps clauses steps fault _ h (no_steps e) = absurd (no_fault_in_none clauses steps fault e h)
 first_of_steps clauses steps fault _ h (in_step first k) = one_fault clauses steps fault first h k
 first_of_steps clauses steps fault _ h (not_empty before last some follow other) = absurd (follow_right clauses (before ++ last ∷ []) steps fault follow h)
-
-pub first_of_none : (clauses : List (List Lit)) (first : StepFault) → FirstFault clauses [] first → NoSteps ≡ first
-first_of_none clauses _ (no_steps e) = refl
-first_of_none clauses _ (in_step first h) = absurd (no_fault_in_none clauses [] first refl h)
-first_of_none clauses _ (not_empty before last some follow other) = absurd (some refl)
 
 -- what the last clause of right steps says
 module _ (clauses : List (List Lit)) (steps : List Resolution) (last : List Lit) (ends : EndsIn clauses steps last) where

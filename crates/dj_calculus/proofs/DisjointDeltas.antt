@@ -75,9 +75,6 @@ module _ {S A : Type 0} (see : S → A) (put : A → S → S) (seen : (a : A) (s
             ∙ ap (option_map (λ z. put z (put b.0 s))) (i.right (see s) b.0 b.1 (unmapped (λ x. put x s) (f (see s)) q));
       }
 
-some_injective : {X : Type 0} (a b : X) → ◌≡◌ {A = Option X} (Some a) (Some b) → a ≡ b
-some_injective a b e = cc
-
 inside_both : {X : Type 0} (f g : X → Option X) → Independent f g → (o a b : Option X) → inside f o ≡ Some a → inside g o ≡ Some b
     → (z : Option X) × (inside g a ≡ Some z) × (inside f b ≡ Some z)
 inside_both f g i None a b p q = absurd cc

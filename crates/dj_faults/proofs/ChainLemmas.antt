@@ -7,6 +7,7 @@ use Rattle.std.proofs.lemmas.List.{take_more}
 use Rattle.std.proofs.lemmas.Slice.Eq.{bytes_eq-Decides}
 use Rattle.std.proofs.lemmas.Option.{slice_get-map, slice_get-get_or, slice_get_within, get_or_from_slice_get}
 use Rattle.std.proofs.lemmas.List.Elements.{All-contains, All-push, filter_map-append}
+use Rattle.dj_calculus.proofs.Counting.{got_within}
 use Rattle.dj_calculus.proofs.Members.{same_some, mapped, either, no_element, first_or_other, among_others, filtered_from, mapped_within}
 use Rattle.dj_calculus.proofs.PartChain.{chain_is_reached}
 use Rattle.dj_names.specs.Texts.{Text}
@@ -104,9 +105,6 @@ append_none (x ∷ xs) = ap (λ ys. x ∷ ys) (append_none xs)
 length_mapped : {X Y : Type 0} (f : X → Y) (xs : List X) → length (map f xs) ≡ length xs
 length_mapped f [] = refl
 length_mapped f (x ∷ xs) = ap suc (length_mapped f xs)
-
-got_within : {X : Type 0} (xs : List X) (k : ℕ) (x : X) → slice_get xs k ≡ Some x → Contains xs x
-got_within xs k x e = (k, slice_get_within xs k x e, get_or_from_slice_get xs k x x e)
 
 less_or_not : (a b : ℕ) → (a < b) ⊎ (b ≤ a)
 less_or_not a b = grind arith

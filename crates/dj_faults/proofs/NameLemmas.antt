@@ -6,7 +6,8 @@ use Rattle.std.specs.Str.{bytes_eq}
 use Rattle.std.proofs.lemmas.Slice.Eq.{bytes_eq-Decides}
 use Rattle.std.proofs.lemmas.Bool.Decides.{Decides-eqb, Decides-like, same_from_decides}
 use Rattle.std.proofs.lemmas.List.Elements.{Contains-append_cases}
-use Rattle.std.proofs.lemmas.Option.{slice_get-map, slice_get_within, get_or_from_slice_get}
+use Rattle.std.proofs.lemmas.Option.{slice_get-map, slice_get_within}
+use Rattle.dj_calculus.proofs.Counting.{got_within}
 use Rattle.dj_calculus.proofs.Members.{either, mapped, mapped_within, no_element, first_or_other, among_others}
 use Rattle.dj_calculus.specs.FaultPlaces.{Repeats}
 use Rattle.dj_faults.specs.LeastPlace.{IsLeastPlace, Among}
@@ -90,9 +91,6 @@ met_from : (spots : List Spot) (number n : ℕ) → is_met (take number spots) n
 met_from spots zero n e = absurd (cc e)
 met_from [] (suc number) n e = absurd cc
 met_from (z ∷ spots) (suc number) n e = met_first z spots number n _ _ refl (met_from spots number n) e
-
-got_within : {X : Type 0} (xs : List X) (k : ℕ) (x : X) → slice_get xs k ≡ Some x → Contains xs x
-got_within xs k x e = (k, slice_get_within xs k x e, get_or_from_slice_get xs k x x e)
 
 module _ (names : List Text) (distinct : AreDistinct names) where
   pub one_number : (a b : ℕ) → a < length names → b < length names → text_of names a ≡ text_of names b → a ≡ b

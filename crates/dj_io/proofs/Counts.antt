@@ -1,35 +1,10 @@
--- Laws on counts of faults, for proofs over several calls.
-use Rattle.std.proofs.Common.{◌≡◌, ◌≢◌, ℕ, ◌^◌, ◌<◌, ◌≤◌, Bool, true, false, nat_eq, List, length, get_or, arith, refl}
+-- Counts of faults in a list of files.
+use Rattle.std.proofs.Common.{◌≡◌, ◌≢◌, ℕ, ◌^◌, ◌<◌, Bool, true, false, nat_eq, List, length, get_or, arith, refl}
 use Rattle.std.proofs.Math.ListN.{set}
 use Rattle.std.proofs.lemmas.List.{get_or-set_same, get_or-set_other}
 use Rattle.std.proofs.lemmas.Grind.{get_or_default_zero}
 use Rattle.std.proofs.lemmas.Bool.Decides.{nat_tests}
-use Rattle.dj_io.specs.Count.{Follows, Rises, greatest_count, one_more}
-
--- a count that didn't change follows
-pub Follows-same : (before now : ℕ) → now ≡ before → Follows before now
-Follows-same before now same = record { no_less = omega arith; stays = λ top. cc }
-
--- what follows a count that follows another follows that
-pub Follows-trans : (before between now : ℕ) → Follows before between → Follows between now → Follows before now
-Follows-trans before between now first second =
-    record { no_less = omega arith; stays = λ top. second.stays (first.stays top) }
-
--- what rose follows
-pub Follows-rises : (before now : ℕ) → Rises before now → now ≤ greatest_count → Follows before now
-Follows-rises before now rises bound = record { no_less = rises.no_less; stays = λ top. omega (arith, rises.raised) }
-
--- after other calls, a rise is a rise
-pub Rises-after : (before between now : ℕ) → before ≤ between → Rises between now → Rises before now
-Rises-after before between now earlier rises = record { no_less = omega arith; raised = omega (arith, rises.raised) }
-
--- and it stays one, whatever calls follow
-pub Rises-before : (before between now : ℕ) → Rises before between → between ≤ now → Rises before now
-Rises-before before between now rises later = record { no_less = omega arith; raised = omega (arith, rises.raised) }
-
--- below the greatest count a rise is strict
-pub Rises-strict : (before now : ℕ) → before < greatest_count → Rises before now → before < now
-Rises-strict before now below rises = omega (arith, rises.raised)
+use Rattle.dj_io.specs.Count.{Follows, one_more}
 
 -- one count of a list has one more
 pub Follows-raised : (before : List ℕ) (place at value raised : ℕ) → place < length before → value ≡ get_or before place value →

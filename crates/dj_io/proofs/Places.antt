@@ -1,16 +1,11 @@
 -- Files in memory: where a path stands, and what is left after a write at that place.
-use Rattle.std.proofs.Common.{◌≡◌, ◌≢◌, ℕ, ◌+◌, ◌<◌, ◌≤◌, suc, List, [], ◌∷◌, length, drop, map, Bool, true, false, Some, refl, ap, sym, ◌∙◌, subst, arith, get_or, ◌++◌, take, append-nil, add-one, drop-cons}
-use Rattle.std.specs.Option.{ForSome}
+use Rattle.std.proofs.Common.{◌≡◌, ◌≢◌, ℕ, ◌+◌, ◌<◌, suc, List, [], ◌∷◌, length, drop, map, Bool, true, false, refl, ap, sym, ◌∙◌, arith, get_or, ◌++◌, take, append-nil, add-one, drop-cons}
 use Rattle.std.specs.Str.{bytes_eq}
 use Rattle.std.proofs.Math.ListN.{set}
 use Rattle.std.proofs.Math.Seq.{drop-length, map-set_same}
 use Rattle.std.proofs.lemmas.List.{take_all}
 use Rattle.std.proofs.lemmas.Slice.Eq.{bytes_eq-Decides}
 use Rattle.dj_io.specs.Contents.{place_of, left_of}
-
--- what is true of the value is true of each value told
-pub for_told : (bytes : List ℕ) (P : List ℕ → Type 0) → P bytes → ForSome (Some bytes) P
-for_told bytes P here other same = let equal : bytes ≡ other = cc in subst P equal here
 
 -- a file of another path is passed over
 pub place_of-passed : (files : List (List ℕ × List ℕ)) (path : List ℕ) (i : ℕ) (file : List ℕ × List ℕ) →
@@ -34,13 +29,6 @@ by_test false P at_true at_false = at_false refl
 differs : (this other : List ℕ) → this ≢ other → bytes_eq this other ≡ false
 differs this other apart = by_test (bytes_eq this other) (bytes_eq this other ≡ false)
     (λ same. absurd (apart ((bytes_eq-Decides this other).0 same))) (λ no. no)
-
--- a place is at most the number of files
-pub place_of-le : (files : List (List ℕ × List ℕ)) (path : List ℕ) → place_of files path ≤ length files
-place_of-le [] path = omega arith
-place_of-le (file ∷ files) path = by_test (bytes_eq file.0 path) _
-    (λ same. rw same (omega arith))
-    (λ other. let rest : place_of files path ≤ length files = place_of-le files path in rw other (omega arith))
 
 -- the file at the place of a path has it, and what is left of the one is left of the other
 pub at_place : (files : List (List ℕ × List ℕ)) (path : List ℕ) (file : List ℕ × List ℕ) →

@@ -93,9 +93,6 @@ unfolding unicode_ident
 underscore_starts Line = refl
 underscore_starts Java = refl
 
-at_code : (dialect : Dialect) (c d : ℕ) → c ≡ d → starts_word dialect d ≡ false → starts_word dialect c ≡ false
-at_code dialect c d e h = subst (λ x. starts_word dialect x ≡ false) (sym e) h
-
 white_codes : (c : ℕ) → is_white_space c ≡ true → (P : ℕ → Type 0) → P 32 → P 9 → P 12 → P 10 → P 13 → P c
 white_codes c w P a b d e f =
     elim (or_cases _ _ w) [
@@ -109,9 +106,6 @@ white_codes c w P a b d e f =
 white_starts_no_word : (dialect : Dialect) (c : ℕ) → is_white_space c ≡ true → starts_word dialect c ≡ false
 white_starts_no_word dialect c w =
     let no = no_words dialect in white_codes c w (λ x. starts_word dialect x ≡ false) no.0 no.1 no.2 no.3 no.4
-
-white_is_no_slash : (c : ℕ) → is_white_space c ≡ true → (c == 47) ≡ false
-white_is_no_slash c w = white_codes c w (λ x. (x == 47) ≡ false) refl refl refl refl refl
 
 -- a symbol is at least one character, and the first begins nothing else
 abbrev pub begins_symbol : Dialect → List ℕ → Bool

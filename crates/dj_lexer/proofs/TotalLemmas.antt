@@ -294,13 +294,6 @@ valid_longest bs (suc n) m more l = elim (bool_cases (is_utf8 (take (suc n) bs))
   ]
 ]
 
-valid_within : (bs : List ℕ) (n : ℕ) → valid_len_up_to bs n ≤ n
-valid_within bs zero = omega arith
-valid_within bs (suc n) = elim (bool_cases (is_utf8 (take (suc n) bs))) [
-  | inl e ↦ let top : valid_len_up_to bs (suc n) ≡ suc n = rw e refl in omega arith
-  | inr e ↦ let down : valid_len_up_to bs (suc n) ≡ valid_len_up_to bs n = rw e refl in omega (arith, valid_within bs n)
-]
-
 not_utf8 : (bs : List ℕ) → ¬ (IsUtf8 bs) → IsValidUpTo bs (valid_len_up_to bs (length bs))
 not_utf8 bs broken = record {
   short = elim (cases_lt (valid_len_up_to bs (length bs)) (length bs)) [

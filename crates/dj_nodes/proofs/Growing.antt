@@ -5,7 +5,6 @@
 -- | a name that was known is known later, and stands for the same | known_later, kept_spot |
 -- | the same of nodes, and of all nodes of an arena | formula_node_later, expr_node_later, formula_nodes_later, expr_nodes_later |
 -- | a formula or an expression at a number stays | kept_formula, kept_expr |
--- | a number below the length stays so | below_later |
 -- | growing in no step, and in two | extends_reflexive, extends_transitive, keeps_reflexive, keeps_transitive |
 use Rattle.std.proofs.Common.{◌≡◌, ℕ, ◌+◌, ◌<◌, List, [], ◌∷◌, ◌++◌, length, take, slice_get, Some, refl, sym, ap, ap₂, ◌∙◌, subst, append_assoc, length-append, arith}
 use Rattle.std.specs.Prelude.{unwrap_or, All}
@@ -41,9 +40,6 @@ keeps_reflexive ns = ([], sym (append-nil ns))
 
 pub keeps_transitive : {N : Type 0} (ns between later : List N) → KeepsNodes ns between → KeepsNodes between later → KeepsNodes ns later
 keeps_transitive ns between later e h = (e.0 ++ h.0, h.1 ∙ ap (λ xs. xs ++ h.0) e.1 ∙ append_assoc ns e.0 h.0)
-
-pub below_later : {N : Type 0} (ns later : List N) (at : ℕ) → KeepsNodes ns later → at < length ns → at < length later
-below_later ns later at e h = omega (arith, ap length e.1, length-append ns e.0)
 
 -- ---- names
 

@@ -51,6 +51,3 @@ is_name x i = rw i refl
 -- a word is no sign
 pub word_no_sign : (s : Symbol) (text other : Text) → is_the_word text s ≡ true → is_the_sign other s ≡ false
 word_no_sign s text other h = rw (word_is text s h) refl
-
-pub name_no_sign : (s : Symbol) (other : Text) → is_a_name s ≡ true → is_the_sign other s ≡ false
-name_no_sign s other h = rw ((name_is s h).0) refl

@@ -3,13 +3,11 @@ use Rattle.std.proofs.Common.{◌≡◌, ◌≢◌, ℕ, ◌+◌, ◌-◌, ◌*�
 use Rattle.std.proofs.lemmas.List.Elements.{Contains-append_left, Contains-append_right}
 use Rattle.std.proofs.lemmas.List.FromFn.{length-range_with_len, get_or-range_with_len}
 use Rattle.std.proofs.lemmas.List.Sorted.{length_permutation, All-permutation, Contains-permutation}
-use Rattle.std.specs.List.{remove}
 use Rattle.sat_clauses.specs.declared.literal.Lit.{Lit}
 use Rattle.sat_links.specs.declared.watches.Watch.{Watch}
 use Rattle.sat_links.specs.Queues.{variables, IsQueue}
-use Rattle.sat_links.specs.Watches.{place_of, IsListed, joined, slots_of, HasClauses, same_watch, without}
-use Rattle.sat_links.proofs.ApartLemmas.{Apart, Apart-middle, without_middle}
-use Rattle.sat_links.proofs.WatchLemmas.{IsBelow, slots_below, same_itself, other_watch, permuted_apart, apart_each}
+use Rattle.sat_links.specs.Watches.{place_of, IsListed, joined, slots_of, HasClauses}
+use Rattle.sat_links.proofs.WatchLemmas.{IsBelow, slots_below}
 
 -- a queue's length, and which variables it has
 in_range : (vars : ℕ) → All (λ var. (1 ≤ var) × (var ≤ vars)) (variables vars)
@@ -51,13 +49,6 @@ split_at : (list : List Watch) (k : ℕ) (w : Watch) → slice_get list k ≡ So
 split_at [] k w at = cc
 split_at (x ∷ xs) zero w at = let same : x ≡ w = cc in ap (λ y. y ∷ xs) same
 split_at (x ∷ xs) (suc k) w at = ap (λ l. x ∷ l) (split_at xs k w at)
-
-pub without_is : (clauses : ℕ) (lists : List (List Watch)) (place k : ℕ) (w : Watch) → HasClauses clauses lists → slice_get (get_or lists place []) k ≡ Some w → without w (get_or lists place []) ≡ remove (get_or lists place []) k
-without_is clauses lists place k w watches at =
-    let list = get_or lists place [] in
-    let split = split_at list k w at in
-    let apart = Apart-middle (take k list) (drop (suc k) list) w (subst Apart split (apart_each lists place (permuted_apart clauses (joined lists) watches))) in
-    ap (without w) split ∙ without_middle (same_watch w) w (same_itself w) (other_watch w) (take k list) (drop (suc k) list) apart.0 apart.1
 
 -- the lists joined have the watches of each
 contains_got : (list : List Watch) (k : ℕ) (w : Watch) → slice_get list k ≡ Some w → Contains list w

@@ -69,9 +69,6 @@ module _ (entries : List Entry) where
   false_along : (a b : Lit) → same_literal a b ≡ true → IsFalseIn entries b → IsFalseIn entries a
   false_along a b e f = subst (IsFalseIn entries) (sym (one_literal a b e)) f
 
-  pub false_none : IsFalseClause entries []
-  false_none lit h = absurd (false≢true h)
-
   pub false_push : (clause : List Lit) (x : Lit) → IsFalseClause entries clause → IsFalseIn entries x → IsFalseClause entries (clause ++ x ∷ [])
   false_push clause x all here = λ lit h. elim (has-push clause x lit h) [ inl e ↦ all lit e | inr e ↦ false_along lit x e here ]
 

@@ -8,9 +8,6 @@ use Rattle.std.proofs.lemmas.Option.{none-some, same_Some}
 use Rattle.sat_solver.specs.declared.entry.Entry.{Entry}
 use Rattle.sat_solver.specs.Entries.{entry_of, value_in, values_of}
 
-is_of : ℕ → Entry → Bool
-is_of var entry = eqb entry.lit.var var
-
 pub entry_kept : (xs ys : List Entry) (var : ℕ) (entry : Entry) → entry_of xs var ≡ Some entry → entry_of (xs ++ ys) var ≡ Some entry
 entry_kept [] ys var entry e = absurd (none-some entry e)
 entry_kept (x ∷ xs) ys var entry e = by (eqb x.lit.var var) e (entry_kept xs ys var entry)

@@ -1,7 +1,7 @@
 -- Entries that go on with others of one level.
 use Rattle.std.proofs.Common.{◌≡◌, ℕ, ◌≤◌, ◌<◌, List, [], ◌∷◌, ◌++◌, Some, take, length, slice_get, sym, subst, ap, ◌∙◌, arith, ◌⊎◌, inl, inr}
 use Rattle.std.proofs.lemmas.Bool.{cases_lt}
-use Rattle.std.proofs.lemmas.List.{append-nil, append_assoc, length-append, take-append-le, take_at, nil_from_length}
+use Rattle.std.proofs.lemmas.List.{append-nil, append_assoc, length-append, take-append-le, take_at}
 use Rattle.std.proofs.lemmas.Option.{slice_get_within}
 use Rattle.sat_clauses.specs.declared.literal.Lit.{Lit}
 use Rattle.sat_solver.specs.declared.entry.Entry.{Entry}
@@ -19,12 +19,6 @@ module _ (clauses : List (List Lit)) (level : ℕ) where
 
   pub extends_longer : (old new : List Entry) → Extends clauses level old new → length old ≤ length new
   extends_longer old new extends = omega (arith, ap length extends.prefix, length-append old extends.added)
-
-  -- entries that are as many as before are the same
-  pub extends_same : (old new : List Entry) → Extends clauses level old new → length new ≡ length old → new ≡ old
-  extends_same old new extends e =
-      let none : extends.added ≡ [] = nil_from_length extends.added (omega (arith, ap length extends.prefix, length-append old extends.added)) in
-      extends.prefix ∙ ap (λ xs. old ++ xs) none ∙ append-nil old
 
   pub extends_push : (old now : List Entry) (y : Entry) → Extends clauses level old now → IsForced clauses now y → y.level ≡ level → Extends clauses level old (now ++ y ∷ [])
   extends_push old now y extends here leveled = record {
