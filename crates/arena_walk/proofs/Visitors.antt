@@ -27,7 +27,7 @@ use Rattle.arena_walk.proofs.WalkLemmas.{grows}
 pub use Rattle.arena_walk.proofs.TreeLemmas.{list_of-trees_of, trees_of-list_of, size_above, size_each-append, EachNode-map, EachNode-with, EachNode-root}
 pub use Rattle.arena_walk.proofs.ForestLemmas.{trees-nil, grow-append, last_trees-append, length-last_trees, trees-push, tree_at-append, tree_at_node, tree_at_within, nodes_to, has_own}
 pub use Rattle.arena_walk.proofs.SlotLemmas.{size_within}
-pub use Rattle.arena_walk.proofs.WalkLemmas.{numbers-range, Appends-none, Appends-more, IsAlong, along_start, along_enough, along_kids, along_next, along_end, along_at, along_with, next_node}
+pub use Rattle.arena_walk.proofs.WalkLemmas.{length_outs, numbers-range, Appends-none, Appends-more, IsAlong, along_start, along_enough, along_kids, along_next, along_end, along_at, along_with, next_node}
 
 mutual
   -- what holds of every tree and number holds of each node
@@ -124,12 +124,6 @@ pub each_handed_down : {N : Type 0} (P : Tree N → ℕ → Type 0) (arity : N �
 each_handed_down {N} P arity ns root t down is here =
     let within = size_within arity ns root t is in
     handed_down P down (first_number root t) root t (omega arith) here
-
-pub length_outs : {A B : Type 0} (R : A → B → Type 0) (kids : List A) (outs : List B) → AllZip R kids outs → length kids ≡ length outs
-length_outs R [] [] h = refl
-length_outs R [] (y ∷ ys) h = absurd h
-length_outs R (x ∷ xs) [] h = absurd h
-length_outs R (x ∷ xs) (y ∷ ys) h = ap suc (length_outs R xs ys h.1)
 
 -- the out of one child, and the child
 pub out_at : {A B : Type 0} (R : A → B → Type 0) (kids : List A) (outs : List B) (k : ℕ) (out : B) → AllZip R kids outs → slice_get outs k ≡ Some out → (kid : A) × (slice_get kids k ≡ Some kid) × R kid out

@@ -80,11 +80,11 @@ along_start {N} {Out} arity stands admits t at rest full each e =
       stand = tt;
     }
 
-length_AllZip : {A B : Type 0} (R : A → B → Type 0) (xs : List A) (ys : List B) → AllZip R xs ys → length xs ≡ length ys
-length_AllZip R [] [] h = refl
-length_AllZip R [] (y ∷ ys) h = absurd h
-length_AllZip R (x ∷ xs) [] h = absurd h
-length_AllZip R (x ∷ xs) (y ∷ ys) h = ap suc (length_AllZip R xs ys h.1)
+pub length_outs : {A B : Type 0} (R : A → B → Type 0) (kids : List A) (outs : List B) → AllZip R kids outs → length kids ≡ length outs
+length_outs R [] [] h = refl
+length_outs R [] (y ∷ ys) h = absurd h
+length_outs R (x ∷ xs) [] h = absurd h
+length_outs R (x ∷ xs) (y ∷ ys) h = ap suc (length_outs R xs ys h.1)
 
 AllZip-drop : {A B : Type 0} (R : A → B → Type 0) (i : ℕ) (xs : List A) (ys : List B) → AllZip R xs ys → AllZip R (drop i xs) (drop i ys)
 AllZip-drop R zero xs ys h = h
@@ -100,7 +100,7 @@ AllZip-take R (suc i) [] (y ∷ ys) h = absurd h
 AllZip-take R (suc i) (x ∷ xs) [] h = absurd h
 AllZip-take R (suc i) (x ∷ xs) (y ∷ ys) h = (h.0, AllZip-take R i xs ys h.1)
 
-AllZip-more : {A B : Type 0} (R : A → B → Type 0) (xs : List A) (ys : List B) (x : A) (y : B) → AllZip R xs ys → R x y → AllZip R (xs ++ x ∷ []) (ys ++ y ∷ [])
+pub AllZip-more : {A B : Type 0} (R : A → B → Type 0) (xs : List A) (ys : List B) (x : A) (y : B) → AllZip R xs ys → R x y → AllZip R (xs ++ x ∷ []) (ys ++ y ∷ [])
 AllZip-more R [] [] x y h r = (r, tt)
 AllZip-more R [] (b ∷ ys) x y h r = absurd h
 AllZip-more R (a ∷ xs) [] x y h r = absurd h
@@ -116,11 +116,11 @@ AllZip-map R S (x ∷ xs) (y ∷ ys) more h = (more x y h.0, AllZip-map R S xs y
 kids_stand : {N Out : Type 0} (arity : N → ℕ) (stands : Tree N → Out → Type 0) (ts : List (Tree N)) (outs : List Out) (n : N) → AllZip stands ts outs → AllZip stands (last_trees arity ts n) (drop (length outs - arity n) outs)
 unfolding last_trees
 kids_stand {N} {Out} arity stands ts outs n h =
-    let same = length_AllZip stands ts outs h in
+    let same = length_outs stands ts outs h in
     subst (λ (k : ℕ). AllZip stands (drop (length ts - arity n) ts) (drop (k - arity n) outs)) same (AllZip-drop stands (length ts - arity n) ts outs h)
 
 pub along_enough : {N Out : Type 0} (arity : N → ℕ) (stands : Tree N → Out → Type 0) (admits : Tree N → ℕ → Type 0) (t : Tree N) (at : ℕ) (n : N) (rest : List N) (outs : List Out) → IsAlong arity stands admits t at (n ∷ rest) outs → arity n ≤ length outs
-along_enough arity stands admits t at n rest outs h = omega (arith, h.steps.0, length_AllZip stands h.ts outs h.stand)
+along_enough arity stands admits t at n rest outs h = omega (arith, h.steps.0, length_outs stands h.ts outs h.stand)
 
 pub along_kids : {N Out : Type 0} (arity : N → ℕ) (stands : Tree N → Out → Type 0) (admits : Tree N → ℕ → Type 0) (t : Tree N) (at : ℕ) (n : N) (rest : List N) (outs : List Out) → IsAlong arity stands admits t at (n ∷ rest) outs → (kids : List (Tree N)) × AllZip stands kids (drop (length outs - arity n) outs) × admits (over n kids) at
 along_kids arity stands admits t at n rest outs h =
@@ -129,7 +129,7 @@ along_kids arity stands admits t at n rest outs h =
 pub along_next : {N Out : Type 0} (arity : N → ℕ) (stands still : Tree N → Out → Type 0) (admits : Tree N → ℕ → Type 0) (t : Tree N) (at : ℕ) (n : N) (rest : List N) (outs : List Out) (out : Out) → IsAlong arity stands admits t at (n ∷ rest) outs → ((u : Tree N) (o : Out) → stands u o → still u o) → ((kids : List (Tree N)) → AllZip stands kids (drop (length outs - arity n) outs) → admits (over n kids) at → still (over n kids) out) → IsAlong arity still admits t (at + 1) rest (take (length outs - arity n) outs ++ out ∷ [])
 along_next {N} {Out} arity stands still admits t at n rest outs out h stay here =
     let kids = last_trees arity h.ts n in
-    let same : length h.ts ≡ length outs = length_AllZip stands h.ts outs h.stand in
+    let same : length h.ts ≡ length outs = length_outs stands h.ts outs h.stand in
     let front : AllZip still (others arity h.ts n) (take (length outs - arity n) outs) =
     subst (λ (k : ℕ). AllZip still (others arity h.ts n) (take (k - arity n) outs)) same
     (AllZip-map stands still _ _ stay (AllZip-take stands (length h.ts - arity n) h.ts outs h.stand)) in

@@ -4,10 +4,6 @@ use Rattle.dj_names.specs.Texts.{Text}
 use Rattle.dj_report.specs.Refusals.{IsRefusalText, too_long}
 use Rattle.dj_report.specs.declared.refusal.Refusal.TheVariants.{TooLong}
 
-pub if_ok_map : {T E : Type 0} (r : Result T E) (P Q : T → Type 0) → ((x : T) → P x → Q x) → IfOk r P → IfOk r Q
-if_ok_map (Ok x) P Q change holds = change x holds
-if_ok_map (Err e) P Q change holds = tt
-
 -- that there are too many bytes is said without looking at them
 pub long_text : (text : Text) → IsRefusalText [] TooLong text → (bytes : List ℕ) → IsRefusalText bytes TooLong text
 long_text _ too_long bytes = too_long

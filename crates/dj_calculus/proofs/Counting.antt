@@ -1,5 +1,5 @@
 -- Elements with different numbers are as many as their numbers.
-use Rattle.std.proofs.Common.{◌≡◌, ◌⊎◌, inl, inr, ℕ, zero, suc, ◌<◌, ◌≤◌, List, [], ◌∷◌, length, Contains, Some, slice_get, refl, sym, ap, ◌∙◌, subst, arith}
+use Rattle.std.proofs.Common.{◌≡◌, ◌⊎◌, inl, inr, ℕ, zero, suc, ◌+◌, ◌<◌, ◌≤◌, List, [], ◌∷◌, length, Contains, Some, slice_get, refl, sym, ap, ◌∙◌, subst, arith}
 use Rattle.std.proofs.lemmas.Option.{slice_get_within, get_or_from_slice_get, slice_get-get_or}
 use Rattle.dj_calculus.proofs.Members.{no_element, first_or_other, among_others, either}
 
@@ -32,6 +32,16 @@ as_many (suc n) xs Has each once =
 pub got_within : {X : Type 0} (xs : List X) (k : ℕ) (x : X) → slice_get xs k ≡ Some x → Contains xs x
 got_within xs k x e = (k, slice_get_within xs k x e, get_or_from_slice_get xs k x x e)
 
+-- the element at a number
+pub there_is : {X : Type 0} (xs : List X) (k : ℕ) → k < length xs → (x : X) × (slice_get xs k ≡ Some x)
+there_is [] k low = absurd (omega arith)
+there_is (x ∷ xs) zero low = (x, refl)
+there_is (x ∷ xs) (suc k) low = there_is xs k (omega arith)
+
 -- the number of an element
 pub number_in : {X : Type 0} (xs : List X) (x : X) → Contains xs x → (k : ℕ) × (slice_get xs k ≡ Some x)
 number_in xs x has = (has.0, slice_get-get_or xs has.0 x has.1 ∙ ap Some has.2)
+
+-- a number below the next is below this one, or this one
+pub earlier_or_last : (n i : ℕ) → n < i + 1 → (n < i) ⊎ (n ≡ i)
+earlier_or_last n i low = grind arith

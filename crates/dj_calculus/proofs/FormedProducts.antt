@@ -21,7 +21,7 @@ use Rattle.dj_calculus.specs.Products.{default_order, Product}
 use Rattle.dj_calculus.specs.Typing.{Home, IsBody, kept}
 use Rattle.dj_calculus.specs.Expressions.{IsExpression, HasExpressions}
 use Rattle.dj_calculus.proofs.MapLemmas.{text_get-empty}
-use Rattle.dj_calculus.proofs.Members.{no_element, first_or_other, among_others, either, kept_by, within_flat, Each, none, and, each_of, each_map, each_append, in_front_or_behind, mapped}
+use Rattle.dj_calculus.proofs.Members.{no_element, among_others, either, kept_by, within_flat, Each, none, and, each_of, each_map, each_append, in_front_or_behind, mapped, only_one}
 use Rattle.dj_calculus.proofs.DisjointDeltas.{get_with_at}
 use Rattle.dj_calculus.proofs.ProductLemmas.{default_along}
 use Rattle.dj_calculus.proofs.GoodLemmas.{run_keeps, declared}
@@ -58,9 +58,6 @@ FormedClass e = EachValue FormedMethod e.methods
 
 abbrev FormedTable : Table → Type 0
 FormedTable t = EachValue FormedClass t
-
-only_one : {X : Type 0} (x y : X) → Contains (x ∷ []) y → x ≡ y
-only_one x y within = either (first_or_other x y [] within) (λ is. is) (λ nothing. no_element y nothing)
 
 new_formed : (m : Method) → IsExpression m.body → FormedMethod (method_entry m)
 new_formed m is body within = subst (λ b. IsExpression b.value) (only_one (body_of m) body within) is

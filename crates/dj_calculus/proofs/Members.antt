@@ -145,3 +145,19 @@ in_front_or_behind [] ys y within = inr within
 in_front_or_behind (x ∷ xs) ys y within =
     either (first_or_other x y (xs ++ ys) within) (λ is. inl (0, omega arith, is))
     (λ later. either (in_front_or_behind xs ys y later) (λ front. inl (among_others x y xs front)) (λ behind. inr behind))
+
+-- where an element of a mapped list, or of the lists that a list gives, is from
+pub mapped_from : {X Y : Type 0} (f : X → Y) (xs : List X) (y : Y) → Contains (map f xs) y → (x : X) × Contains xs x × (f x ≡ y)
+mapped_from f [] y within = no_element y within
+mapped_from f (x ∷ xs) y within =
+    either (first_or_other (f x) y (map f xs) within) (λ same. (x, (0, omega arith, refl), same))
+    (λ later. let found = mapped_from f xs y later in (found.0, among_others x found.0 xs found.1, found.2))
+
+pub from_flat : {X Y : Type 0} (f : X → List Y) (xs : List X) (y : Y) → Contains (flat_map f xs) y → (x : X) × Contains xs x × Contains (f x) y
+from_flat f [] y within = no_element y within
+from_flat f (x ∷ xs) y within =
+    either (in_front_or_behind (f x) (flat_map f xs) y within) (λ here. (x, (0, omega arith, refl), here))
+    (λ later. let found = from_flat f xs y later in (found.0, among_others x found.0 xs found.1, found.2))
+
+pub only_one : {X : Type 0} (x y : X) → Contains (x ∷ []) y → x ≡ y
+only_one x y within = either (first_or_other x y [] within) (λ is. is) (λ nothing. no_element y nothing)

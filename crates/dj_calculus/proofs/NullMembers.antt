@@ -1,5 +1,5 @@
 -- The class of the sample NullMember breaks no rule below layer 5.
-use Rattle.std.proofs.Common.{◌≡◌, inl, inr, ℕ, zero, suc, ◌<◌, [], ◌∷◌, Some, None, IsSome, Contains, codes, refl, sym, ap, ◌∙◌, subst, arith}
+use Rattle.std.proofs.Common.{◌≡◌, inl, inr, ℕ, ◌<◌, [], ◌∷◌, Some, None, IsSome, Contains, codes, refl, sym, ap, ◌∙◌, subst, arith}
 use Rattle.std.proofs.lemmas.Bool.{false≢true}
 use Rattle.std.specs.FinMap.{get}
 use Rattle.dj_names.specs.Texts.{Text}
@@ -15,7 +15,7 @@ use Rattle.dj_calculus.specs.JavaFiles.{table_of}
 use Rattle.dj_calculus.specs.Samples.NullMember
 use Rattle.dj_calculus.specs.Samples.Builders.{spot}
 use Rattle.dj_calculus.proofs.MapLemmas.{text_get-insert, text_get-empty, get_of_one}
-use Rattle.dj_calculus.proofs.Members.{not_both}
+use Rattle.dj_calculus.proofs.Members.{not_both, only_one}
 
 abbrev pub entry : ClassEntry
 entry = class_entry NullMember.class_a
@@ -63,15 +63,11 @@ superclass_exists c e is = rw (← only c e is) (inl refl)
 field_exists : (c f : Text) (e : ClassEntry) (field : FieldEntry) → get table c ≡ Some e → get e.fields f ≡ Some field → Exists table field.kind.text
 field_exists c f e field is has = rw (← (get_of_one FieldEntry (codes "f") f _ field (rw (← only c e is) at has)).1) a_exists
 
-single : {X : Type 0} (x y : X) → Contains (x ∷ []) y → x ≡ y
-single x y (zero, low, is) = is
-single x y (suc k, low, is) = absurd (omega arith)
-
 method_exists : (c m : Text) (e : ClassEntry) (method : MethodEntry) (kind : Spot) → get table c ≡ Some e → get e.methods m ≡ Some method
     → Contains (types_in method.signature) kind → Exists table kind.text
 method_exists c m e method kind is has within =
     let same = (get_of_one MethodEntry (codes "d") m _ method (rw (← only c e is) at has)).1 in
-    rw (← single _ kind (subst (λ x. Contains (types_in x.signature) kind) (sym same) within)) a_exists
+    rw (← only_one _ kind (subst (λ x. Contains (types_in x.signature) kind) (sym same) within)) a_exists
 
 ends_there : (c : Text) (e : ClassEntry) → get table c ≡ Some e → IsEndless table c → ⊥
 ends_there c e is endless =

@@ -1,11 +1,10 @@
 -- Where no instance of layers 1 and 2 counts, there is a product.
-use Rattle.std.proofs.Common.{◌≡◌, ℕ, zero, suc, ◌<◌, ◌≤◌, Bool, true, false, List, [], ◌∷◌, ◌++◌, map, take, Option, Some, None, is_some, length, slice_get, Contains, append_assoc, refl, sym, ap, ◌∙◌, subst, arith}
+use Rattle.std.proofs.Common.{◌≡◌, ℕ, zero, suc, ◌≤◌, Bool, true, false, List, [], ◌∷◌, ◌++◌, map, take, Option, Some, None, is_some, length, slice_get, Contains, append_assoc, refl, sym, ap, ◌∙◌, subst, arith}
 use Rattle.std.specs.Bool.{if◌then◌else◌}
 use Rattle.std.specs.List.{AllPairs}
 use Rattle.std.specs.List.Sorted.{IsPermutation}
 use Rattle.std.specs.Option.{option_map, option_and_then}
 use Rattle.std.specs.FinMap.{get}
-use Rattle.std.proofs.lemmas.Option.{slice_get_within, get_or_from_slice_get}
 use Rattle.dj_tree.specs.Trees.{Spot, Part, Delta, Source, Change, Method, MemberOperation, adds_field, adds_method, modifies_method, removes_field, removes_method, Operation, adds_class, modifies_class, removes_class}
 use Rattle.dj_calculus.specs.Maps.{with_at}
 use Rattle.dj_calculus.specs.Configurations.{Configuration}
@@ -25,6 +24,7 @@ use Rattle.dj_calculus.proofs.OperationLemmas.{IsOnce}
 use Rattle.dj_calculus.proofs.GoodLemmas.{run_append, declared, classes_once, change_within, members_once}
 use Rattle.dj_calculus.proofs.Independence.{Defined, Pairwise, no_pairs, pairs, run_defined, run_reordered, reordered}
 use Rattle.dj_calculus.proofs.DisjointDeltas.{deltas_independent, operations_pairwise, steps_pairwise}
+use Rattle.dj_calculus.proofs.Counting.{got_within, there_is}
 
 -- ---- an operation that breaks no rule is defined
 
@@ -99,14 +99,6 @@ operation_defined t x sound once =
     (with_at t (class_name x).text d.0, ap (option_map (λ held. with_at t (class_name x).text held)) d.1)
 
 -- ---- fronts of lists
-
-pub there : {X : Type 0} (xs : List X) (k : ℕ) → k < length xs → (x : X) × (slice_get xs k ≡ Some x)
-there [] k low = absurd (omega arith)
-there (x ∷ xs) zero low = (x, refl)
-there (x ∷ xs) (suc k) low = there xs k (omega arith)
-
-placed_within : {X : Type 0} (xs : List X) (k : ℕ) (x : X) → slice_get xs k ≡ Some x → Contains xs x
-placed_within xs k x e = (k, slice_get_within xs k x e, get_or_from_slice_get xs k x x e)
 
 take_one_more : {X : Type 0} (xs : List X) (k : ℕ) (x : X) → slice_get xs k ≡ Some x → take (suc k) xs ≡ take k xs ++ x ∷ []
 take_one_more [] k x e = absurd cc
@@ -186,8 +178,8 @@ module _ (source : Source) (accepted : IsAccepted source) (c : Configuration) wh
     makes_up_to zero low = (empty_table, record { each = λ order allowed. ap fold_deltas (ends source c order allowed) })
     makes_up_to (suc k) low =
         let before = makes_up_to k (omega arith) in
-        let part = there (chain source) k (omega arith) in
-        let within = placed_within (chain source) k part.0 part.1 in
+        let part = there_is (chain source) k (omega arith) in
+        let within = got_within (chain source) k part.0 part.1 in
         let next = next_part_makes (take k (chain source)) part.0 before.0 before.1 (disjoint part.0 within) (λ d x has of. sound k part.0 before.0 d x part.1 before.1 has of) in
         (next.0, subst (λ ps. Makes source c ps next.0) (sym (take_one_more (chain source) k part.0 part.1)) next.1)
 

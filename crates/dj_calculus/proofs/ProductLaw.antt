@@ -16,7 +16,8 @@ use Rattle.dj_calculus.specs.Good.{HasProduct}
 use Rattle.dj_calculus.proofs.LayerLemmas.{none_below_overlap, of_higher_table, second_layer}
 use Rattle.dj_calculus.proofs.GoodLemmas.{no_overlap, no_broken_operation}
 use Rattle.dj_calculus.proofs.Members.{either}
-use Rattle.dj_calculus.proofs.ProductExists.{there, product_exists}
+use Rattle.dj_calculus.proofs.ProductExists.{product_exists}
+use Rattle.dj_calculus.proofs.Counting.{there_is}
 
 -- ---- of conflicts there is a least
 
@@ -66,8 +67,8 @@ module _ (source : Source) (accepted : IsAccepted source) (c : Configuration) wh
     apart : (part : Part) → Contains (chain source) part → AllPairs Disjoint (active source c part)
     apart part within i j d behind low =
         let ds = active source c part in
-        let one = there ds i (omega arith) in
-        let other = there ds j low in
+        let one = there_is ds i (omega arith) in
+        let other = there_is ds j low in
         let disjoint : Disjoint one.0 other.0 = no_conflict one.0 other.0 (λ p q least.
         none_first (record { rule = 1; at = p; second = q }) (omega arith) (overlap part i j one.0 other.0 p q within behind one.1 other.1 least)) in
         rw (get_or_from_slice_get ds i one.0 d one.1, get_or_from_slice_get ds j other.0 d other.1) disjoint

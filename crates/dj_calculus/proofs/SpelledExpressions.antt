@@ -1,5 +1,5 @@
 -- What the grammar spells are expressions.
-use Rattle.std.proofs.Common.{◌≡◌, List, [], ◌∷◌, ◌++◌, Option, Some, Contains, refl, sym, ap, subst, arith}
+use Rattle.std.proofs.Common.{◌≡◌, List, [], ◌∷◌, ◌++◌, Option, Some, Contains, sym, ap, subst, arith}
 use Rattle.std.specs.List.{flat_map, filter_map}
 use Rattle.dj_lexer.specs.Symbols.{Symbol}
 use Rattle.dj_lexer.specs.declared.token.Dialect.{Dialect}
@@ -17,7 +17,7 @@ use Rattle.dj_tree.specs.LineGrammar.{adds_member, SpellsMemberOperation, Spells
 use Rattle.dj_calculus.specs.Contents.{operations_of, classes_of, changes_of, added_by, change_by, method_added, method_modified, new_methods, modified_methods}
 use Rattle.dj_calculus.specs.Expressions.{IsExpression, a_variable, a_this, a_null, a_new, a_cast, a_field, an_assignment, a_call, an_original, AreExpressions, no_expressions, expression_and, HasExpressions}
 use Rattle.dj_calculus.specs.Things.{does}
-use Rattle.dj_calculus.proofs.Members.{no_element, first_or_other, among_others, either, filtered_from, in_front_or_behind}
+use Rattle.dj_calculus.proofs.Members.{no_element, first_or_other, among_others, either, filtered_from, in_front_or_behind, from_flat}
 use Rattle.dj_calculus.proofs.FormedProducts.{FormedStep, FormedOperation}
 
 are_more : (es : List Expr) (e : Expr) → AreExpressions (trees_of es) → IsExpression e → AreExpressions (trees_of (es ++ e ∷ []))
@@ -104,12 +104,6 @@ spelled_deltas s source (lines.source {modules = modules} {deltas = deltas} a b 
     each_spelled SpellsDelta FormedDelta spelled_delta modules deltas many
 
 -- ---- the methods of a source
-
-from_flat : {X Y : Type 0} (f : X → List Y) (xs : List X) (y : Y) → Contains (flat_map f xs) y → (x : X) × Contains xs x × Contains (f x) y
-from_flat f [] y within = no_element y within
-from_flat f (x ∷ xs) y within =
-    either (in_front_or_behind (f x) (flat_map f xs) y within) (λ here. (x, (0, omega arith, refl), here))
-    (λ later. let found = from_flat f xs y later in (found.0, among_others x found.0 xs found.1, found.2))
 
 class_of_operation : (x : Operation) (c : Class) → added_by x ≡ Some c → FormedOperation x → (m : Method) → Contains c.methods m → IsExpression m.body
 class_of_operation (adds_class d) c e is m within = let same : d ≡ c = cc in is m (subst (λ k. Contains k.methods m) (sym same) within)

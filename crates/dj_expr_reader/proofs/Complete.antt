@@ -1,9 +1,7 @@
 -- What the grammar spells is read.
-use Rattle.std.proofs.Common.{◌≡◌, ℕ, ◌+◌, Bool, true, false, List, [], ◌∷◌, ◌++◌, length, refl, sym, ap, ap₂, subst, ◌∙◌, append_assoc, arith}
+use Rattle.std.proofs.Common.{◌≡◌, ℕ, ◌+◌, List, [], ◌∷◌, ◌++◌, length, refl, sym, ap, ap₂, subst, ◌∙◌, append_assoc, arith}
 use Rattle.std.proofs.lemmas.List.{append-nil}
 use Rattle.std.specs.Prelude.{codes}
-use Rattle.std.specs.Str.{bytes_eq}
-use Rattle.std.proofs.lemmas.Slice.Eq.{bytes_eq-Decides}
 use Rattle.arena_walk.specs.Tree.{trees_of, list_of}
 use Rattle.arena_walk.proofs.Visitors.{list_of-trees_of}
 use Rattle.dj_lexer.specs.Symbols.{Symbol}
@@ -17,6 +15,7 @@ use Rattle.dj_expr_reader.specs.Marks.{Mark, marks_of, marks_each}
 use Rattle.dj_expr_reader.specs.Machine.{Callee, Method, Original, Frame, Bracket, Cast, Assign, Arguments, call_mark, kept, passed, Waiting, Opened, ClosedName, Named, Holding, Called, go, take_operand, take_next, take_after_name, begin_value, step, run}
 use Rattle.dj_expr_reader.proofs.Frames.{AllPass, Keeps, NoCast, and_one, passed-and_one, kept-top, passed-top}
 use Rattle.dj_expr_reader.proofs.Begins.{Begun, single, name_first, other_first, begun, First, first_of_all, first_of_each}
+use Rattle.dj_reader.proofs.Symbols.{not_word}
 
 -- what may come behind an operand
 pub data Follower : Symbol → Type 0 where
@@ -61,14 +60,6 @@ finished opened frames marks made whole a k e = (
 )
 
 -- ---- names
-
--- a word that is a name is none of the reserved ones
-not_word : (x : Spot) → IsName x → (text : List ℕ) → is_reserved text ≡ true → bytes_eq x.text text ≡ false
-not_word x i text r = by_test (bytes_eq x.text text) refl
-  where
-    by_test : (b : Bool) → bytes_eq x.text text ≡ b → b ≡ false
-    by_test true h = let same : x.text ≡ text = (bytes_eq-Decides x.text text).0 h in let clash : true ≡ false = sym r ∙ ap is_reserved (sym same) ∙ i in absurd cc
-    by_test false h = refl
 
 name_step : (x : Spot) → IsName x → (frames : List Frame) (marks : List Mark) → take_operand (named x) frames marks ≡ go (Named x) frames marks
 unfolding is_reserved

@@ -1,8 +1,9 @@
 -- Each step of the machine goes on with the beginning of an expression, ends one, or is stuck.
-use Rattle.std.proofs.Common.{◌≡◌, ℕ, ◌+◌, Bool, true, false, cond, List, [], ◌∷◌, ◌++◌, length, refl, sym, ap, ap₂, subst, ◌∙◌, append_assoc}
+use Rattle.std.proofs.Common.{◌≡◌, ℕ, ◌+◌, Bool, true, false, List, [], ◌∷◌, ◌++◌, length, refl, sym, ap, ap₂, subst, ◌∙◌, append_assoc}
 use Rattle.std.proofs.lemmas.List.{append-nil}
 use Rattle.std.specs.Prelude.{codes, ◌&&◌}
 use Rattle.std.proofs.lemmas.Slice.Eq.{bytes_eq-Decides}
+use Rattle.std.proofs.lemmas.Bool.{cond_both}
 use Rattle.arena_walk.specs.Tree.{trees_of}
 use Rattle.dj_lexer.specs.Symbols.{Symbol}
 use Rattle.dj_lexer.specs.declared.token.Dialect.{Dialect}
@@ -45,10 +46,6 @@ Comes d s x (go mode frames marks) = Reached d mode frames marks (s ++ x ∷ [])
 Comes d s x (finish marks) = SpellsMarks d s marks × (x ≡ sign (codes ";") x.at)
 Comes d s x stuck = Unit {0}
 
-by_test : {M : Type 0} (P : M → Type 0) (b : Bool) (m n : M) → (b ≡ true → P m) → (b ≡ false → P n) → P (cond b m n)
-by_test P true m n f g = f refl
-by_test P false m n f g = g refl
-
 at_sign : (d : Dialect) (s : List Symbol) (x : Symbol) (m : Move) (text : List ℕ) → is_the_sign text x ≡ true → Comes d s (sign text x.at) m → Comes d s x m
 at_sign d s x m text t c = let P : Symbol → Type 0 = λ y. Comes d s y m in subst P (sym (sign_is text x t)) c
 
@@ -74,13 +71,13 @@ primary {marks = marks} {s = s} t e w p =
 
 operand_step : (d : Dialect) (frames : List Frame) (marks : List Mark) (s : List Symbol) (x : Symbol) → Waits d frames marks s → Comes d s x (take_operand x frames marks)
 operand_step d frames marks s x w =
-    by_test (Comes d s x) (is_the_sign (codes "(") x) _ _ (λ h. by_sign s x (codes "(") h (opened x.at w))
-    (λ _. by_test (Comes d s x) (is_the_word (codes "this") x) _ _
+    cond_both (is_the_sign (codes "(") x) _ _ (Comes d s x) (λ h. by_sign s x (codes "(") h (opened x.at w))
+    (λ _. cond_both (is_the_word (codes "this") x) _ _ (Comes d s x)
     (λ h. by_word s x (codes "this") h (primary (word (codes "this") x.at ∷ []) (this_at x.at) w (grammar.this_word x.at)))
-    (λ _. by_test (Comes d s x) (is_the_word (codes "null") x) _ _
+    (λ _. cond_both (is_the_word (codes "null") x) _ _ (Comes d s x)
     (λ h. by_word s x (codes "null") h (primary (word (codes "null") x.at ∷ []) (null_at x.at) w (grammar.null_word x.at)))
-    (λ _. by_test (Comes d s x) (is_the_word (codes "new") x) _ _ (λ h. by_word s x (codes "new") h (new_word x.at w))
-    (λ _. by_test (Comes d s x) (is_a_name x) _ _ (λ h. by_name s x h (λ i. a_name (spot_of x) i w)) (λ _. tt)))))
+    (λ _. cond_both (is_the_word (codes "new") x) _ _ (Comes d s x) (λ h. by_word s x (codes "new") h (new_word x.at w))
+    (λ _. cond_both (is_a_name x) _ _ (Comes d s x) (λ h. by_name s x h (λ i. a_name (spot_of x) i w)) (λ _. tt)))))
 
 -- ---- behind an operand
 
@@ -149,10 +146,10 @@ ending d [] marks s at h = (of h.waits h.spelled h.marks_are h.symbols_are, refl
 
 next_step : (d : Dialect) (frames : List Frame) (marks : List Mark) (s : List Symbol) (x : Symbol) → Holds d Postfix frames marks s → Comes d s x (take_next x frames marks)
 next_step d frames marks s x h =
-    by_test (Comes d s x) (is_the_sign (codes ".") x) _ _ (λ t. by_sign s x (codes ".") t (dotted x.at h))
-    (λ _. by_test (Comes d s x) (is_the_sign (codes ")") x) _ _ (λ t. at_sign d s x _ (codes ")") t (closing d (kept frames) (marks ++ passed frames) s x.at done))
-    (λ _. by_test (Comes d s x) (is_the_sign (codes ",") x) _ _ (λ t. at_sign d s x _ (codes ",") t (separating d (kept frames) (marks ++ passed frames) s x.at done))
-    (λ _. by_test (Comes d s x) (is_the_sign (codes ";") x) _ _ (λ t. at_sign d s x _ (codes ";") t (ending d (kept frames) (marks ++ passed frames) s x.at done))
+    cond_both (is_the_sign (codes ".") x) _ _ (Comes d s x) (λ t. by_sign s x (codes ".") t (dotted x.at h))
+    (λ _. cond_both (is_the_sign (codes ")") x) _ _ (Comes d s x) (λ t. at_sign d s x _ (codes ")") t (closing d (kept frames) (marks ++ passed frames) s x.at done))
+    (λ _. cond_both (is_the_sign (codes ",") x) _ _ (Comes d s x) (λ t. at_sign d s x _ (codes ",") t (separating d (kept frames) (marks ++ passed frames) s x.at done))
+    (λ _. cond_both (is_the_sign (codes ";") x) _ _ (Comes d s x) (λ t. at_sign d s x _ (codes ";") t (ending d (kept frames) (marks ++ passed frames) s x.at done))
     (λ _. tt))))
   where
     done : Holds d (hole (kept frames)) (kept frames) (marks ++ passed frames) s
@@ -171,7 +168,7 @@ asked Java x e = absurd (let clash : false ≡ true = e in cc)
 after_name_step : (d : Dialect) (x : Spot) → IsName x → (frames : List Frame) (marks : List Mark) (s : List Symbol) (y : Symbol) → Waits d frames marks s
     → Comes d (s ++ named x ∷ []) y (take_after_name d x y frames marks)
 after_name_step d x i frames marks s y w =
-    by_test (Comes d (s ++ named x ∷ []) y) (is_the_sign (codes "(") y && asks_for_original d x) _ _
+    cond_both (is_the_sign (codes "(") y && asks_for_original d x) _ _ (Comes d (s ++ named x ∷ []) y)
     (λ h. let both = both_true (is_the_sign (codes "(") y) (asks_for_original d x) h in
     by_sign (s ++ named x ∷ []) y (codes "(") both.0 (asks_here (asked d x both.1)))
     (λ _. next_step d frames (marks ++ (VariableForm x, 0) ∷ []) (s ++ named x ∷ []) y a_variable)
@@ -212,8 +209,8 @@ assigning d f i frames marks s dot equals h = of frames h (λ n. value n)
 after_member_step : (d : Dialect) (f : Spot) → IsName f → (frames : List Frame) (marks : List Mark) (s : List Symbol) (dot : ℕ) (y : Symbol) → Holds d Postfix frames marks s
     → Comes d (s ++ sign (codes ".") dot ∷ named f ∷ []) y (take_after_member f y frames marks)
 after_member_step d f i frames marks s dot y h =
-    by_test (Comes d symbols y) (is_the_sign (codes "(") y) _ _ (λ t. by_sign symbols y (codes "(") t (called a_call))
-    (λ _. by_test (Comes d symbols y) (is_the_sign (codes "=") y) _ _ (λ t. at_sign d symbols y _ (codes "=") t (assigning d f i frames marks s dot y.at h))
+    cond_both (is_the_sign (codes "(") y) _ _ (Comes d symbols y) (λ t. by_sign symbols y (codes "(") t (called a_call))
+    (λ _. cond_both (is_the_sign (codes "=") y) _ _ (Comes d symbols y) (λ t. at_sign d symbols y _ (codes "=") t (assigning d f i frames marks s dot y.at h))
     (λ _. next_step d frames (marks ++ (FieldForm f, 1) ∷ []) symbols y a_field))
   where
     symbols : List Symbol
@@ -257,15 +254,15 @@ pub step_comes : {d : Dialect} {mode : Mode} {frames : List Frame} {marks : List
     → Comes d s x (step d mode frames marks x)
 step_comes {d} {frames = frames} {marks = marks} {s = s} y (waiting w) = operand_step d frames marks s y w
 step_comes {d} {frames = frames} {marks = marks} y (opened {s = s} at w) =
-    by_test (Comes d (s ++ sign (codes "(") at ∷ []) y) (is_a_name y) _ _
+    cond_both (is_a_name y) _ _ (Comes d (s ++ sign (codes "(") at ∷ []) y)
     (λ h. by_name _ y h (λ i. and_symbol d _ frames marks s (sign (codes "(") at ∷ []) (named (spot_of y)) (opened_name at (spot_of y) i w)))
     (λ _. operand_step d (Bracket ∷ frames) marks (s ++ sign (codes "(") at ∷ []) y (opens at w))
 step_comes {d} {frames = frames} {marks = marks} y (opened_name {s = s} at x i w) =
-    by_test (Comes d (s ++ sign (codes "(") at ∷ named x ∷ []) y) (is_the_sign (codes ")") y) _ _
+    cond_both (is_the_sign (codes ")") y) _ _ (Comes d (s ++ sign (codes "(") at ∷ named x ∷ []) y)
     (λ h. by_sign _ y (codes ")") h (and_symbol d _ frames marks s (sign (codes "(") at ∷ named x ∷ []) (sign (codes ")") y.at) (closed_name at y.at x i w)))
     (λ _. regrouped d _ _ y _ (append_assoc s (sign (codes "(") at ∷ []) (named x ∷ [])) (after_name_step d x i (Bracket ∷ frames) marks (s ++ sign (codes "(") at ∷ []) y (opens at w)))
 step_comes {d} {frames = frames} {marks = marks} y (closed_name {s = s} o c x i w) =
-    by_test (Comes d (s ++ sign (codes "(") o ∷ named x ∷ sign (codes ")") c ∷ []) y) (begins_operand y) _ _
+    cond_both (begins_operand y) _ _ (Comes d (s ++ sign (codes "(") o ∷ named x ∷ sign (codes ")") c ∷ []) y)
     (λ _. operand_step d (Cast x ∷ frames) marks (s ++ sign (codes "(") o ∷ named x ∷ sign (codes ")") c ∷ []) y (casts o c x i w))
     (λ _. next_step d frames (marks ++ (VariableForm x, 0) ∷ []) (s ++ sign (codes "(") o ∷ named x ∷ sign (codes ")") c ∷ []) y
     (record {
@@ -280,24 +277,24 @@ step_comes {d} {frames = frames} {marks = marks} y (closed_name {s = s} o c x i 
     }))
 step_comes {d} {frames = frames} {marks = marks} y (a_name {s = s} x i w) = after_name_step d x i frames marks s y w
 step_comes {d} {frames = frames} {marks = marks} y (new_word {s = s} at w) =
-    by_test (Comes d (s ++ word (codes "new") at ∷ []) y) (is_a_name y) _ _
+    cond_both (is_a_name y) _ _ (Comes d (s ++ word (codes "new") at ∷ []) y)
     (λ h. by_name _ y h (λ i. and_symbol d _ frames marks s (word (codes "new") at ∷ []) (named (spot_of y)) (new_class at (spot_of y) i w))) (λ _. tt)
 step_comes {d} {frames = frames} {marks = marks} y (new_class {s = s} at class i w) =
-    by_test (Comes d (s ++ word (codes "new") at ∷ named class ∷ []) y) (is_the_sign (codes "(") y) _ _
+    cond_both (is_the_sign (codes "(") y) _ _ (Comes d (s ++ word (codes "new") at ∷ named class ∷ []) y)
     (λ h. by_sign _ y (codes "(") h (and_symbol d _ frames marks s (word (codes "new") at ∷ named class ∷ []) (sign (codes "(") y.at) (new_opened at y.at class i w))) (λ _. tt)
 step_comes {d} {frames = frames} {marks = marks} y (new_opened {s = s} at o class i w) =
-    by_test (Comes d (s ++ word (codes "new") at ∷ named class ∷ sign (codes "(") o ∷ []) y) (is_the_sign (codes ")") y) _ _
+    cond_both (is_the_sign (codes ")") y) _ _ (Comes d (s ++ word (codes "new") at ∷ named class ∷ sign (codes "(") o ∷ []) y)
     (λ h. by_sign _ y (codes ")") h
     (and_symbol d _ frames _ s (word (codes "new") at ∷ named class ∷ sign (codes "(") o ∷ []) (sign (codes ")") y.at)
     (primary (word (codes "new") at ∷ named class ∷ sign (codes "(") o ∷ sign (codes ")") y.at ∷ []) (new_of class) w (grammar.new_object at o y.at class i))))
     (λ _. tt)
 step_comes {d} {frames = frames} {marks = marks} {s = s} y (holding h) = next_step d frames marks s y h
 step_comes {d} {frames = frames} {marks = marks} y (dotted {s = s} at h) =
-    by_test (Comes d (s ++ sign (codes ".") at ∷ []) y) (is_a_name y) _ _
+    cond_both (is_a_name y) _ _ (Comes d (s ++ sign (codes ".") at ∷ []) y)
     (λ t. by_name _ y t (λ i. and_symbol d _ frames marks s (sign (codes ".") at ∷ []) (named (spot_of y)) (member at (spot_of y) i h))) (λ _. tt)
 step_comes {d} {frames = frames} {marks = marks} y (member {s = s} at f i h) = after_member_step d f i frames marks s at y h
 step_comes {d} {frames = frames} {marks = marks} {s = s} y (called {callee = callee} c) =
-    by_test (Comes d s y) (is_the_sign (codes ")") y) _ _ (λ t. by_sign s y (codes ")") t (holding (finish_call y.at c grammar.no_arguments)))
+    cond_both (is_the_sign (codes ")") y) _ _ (Comes d s y) (λ t. by_sign s y (codes ")") t (holding (finish_call y.at c grammar.no_arguments)))
     (λ _. operand_step d (Arguments callee 0 ∷ frames) marks s y
     (subst (λ l. Waits d (Arguments callee 0 ∷ frames) marks l) (append-nil s)
     (subst (λ k. Waits d (Arguments callee 0 ∷ frames) k (s ++ [])) (append-nil marks) (arguments c none))))

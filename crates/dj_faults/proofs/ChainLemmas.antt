@@ -1,14 +1,15 @@
 -- The chain of parts by numbers, and the parts that are not on it.
-use Rattle.std.proofs.Common.{◌≡◌, ◌⊎◌, ℕ, zero, suc, ◌+◌, ◌-◌, ◌<◌, ◌≤◌, Bool, true, false, cond, ◌||◌, List, [], ◌∷◌, ◌++◌, length, take, map, get_or, slice_get, nat_eq, All, Contains, Option, None, Some, is_none, is_some, IfSome, refl, sym, ap, ◌∙◌, subst, append_assoc, arith}
+use Rattle.std.proofs.Common.{◌≡◌, ℕ, zero, suc, ◌+◌, ◌-◌, ◌<◌, Bool, true, false, cond, ◌||◌, List, [], ◌∷◌, ◌++◌, length, take, map, get_or, slice_get, nat_eq, All, Contains, Option, None, Some, is_none, is_some, IfSome, refl, sym, ap, ◌∙◌, subst, append_assoc, arith}
 use Rattle.std.specs.List.{find, filter_map, cons_option}
 use Rattle.std.specs.Option.{option_map, option_map_or, option_and_then, option_to_list}
 use Rattle.std.specs.Str.{bytes_eq}
-use Rattle.std.proofs.lemmas.List.{take_more}
+use Rattle.std.proofs.lemmas.List.{take_more, append-nil, length-map}
 use Rattle.std.proofs.lemmas.Slice.Eq.{bytes_eq-Decides}
 use Rattle.std.proofs.lemmas.Option.{slice_get-map, slice_get-get_or, slice_get_within, get_or_from_slice_get}
 use Rattle.std.proofs.lemmas.List.Elements.{All-contains, All-push, filter_map-append}
+use Rattle.std.proofs.lemmas.Bool.{cases_lt}
 use Rattle.dj_calculus.proofs.Counting.{got_within}
-use Rattle.dj_calculus.proofs.Members.{same_some, mapped, either, no_element, first_or_other, among_others, filtered_from, mapped_within}
+use Rattle.dj_calculus.proofs.Members.{same_some, mapped, either, no_element, first_or_other, among_others, filtered_from, mapped_within, mapped_from}
 use Rattle.dj_calculus.proofs.PartChain.{chain_is_reached}
 use Rattle.dj_names.specs.Texts.{Text}
 use Rattle.dj_tree.specs.Trees as plain
@@ -25,7 +26,7 @@ use Rattle.dj_faults.specs.LeastPlace.{IsLeastPlace, Among}
 use Rattle.dj_faults.specs.Numbers.{Unmet, IsSound}
 use Rattle.dj_faults.specs.Chains.{comes_after_name, IsNumberOf}
 use Rattle.dj_faults.proofs.LeastLemmas.{least_same}
-use Rattle.dj_faults.proofs.NameLemmas.{mapped_from, same_test, AllKnown, Unnamed}
+use Rattle.dj_faults.proofs.NameLemmas.{same_test, AllKnown, Unnamed}
 use Rattle.dj_faults.proofs.ListFaults.{known_parts, parts_named, by_unknown}
 
 -- ---- what is found first
@@ -98,17 +99,6 @@ no_more : (k : ℕ) (parts : List plain.Part) → parts_from k parts None ≡ []
 no_more zero parts = refl
 no_more (suc k) parts = refl
 
-append_none : {X : Type 0} (xs : List X) → xs ++ [] ≡ xs
-append_none [] = refl
-append_none (x ∷ xs) = ap (λ ys. x ∷ ys) (append_none xs)
-
-length_mapped : {X Y : Type 0} (f : X → Y) (xs : List X) → length (map f xs) ≡ length xs
-length_mapped f [] = refl
-length_mapped f (x ∷ xs) = ap suc (length_mapped f xs)
-
-less_or_not : (a b : ℕ) → (a < b) ⊎ (b ≤ a)
-less_or_not a b = grind arith
-
 differ : true ≡ false → ⊥
 differ e = absurd cc
 
@@ -164,7 +154,7 @@ module _ (s : Source) (sound : IsSound s) where
       → filter_map (slice_get (plain_source s).parts) items ++ parts_from (length s.parts - i) (plain_source s).parts (option_and_then (slice_get (plain_source s).parts) o) ≡ chain (plain_source s)
       → filter_map (slice_get (plain_source s).parts) (items ++ option_to_list o) ++ parts_from (length s.parts - (i + 1)) (plain_source s).parts (option_and_then (slice_get (plain_source s).parts) new) ≡ chain (plain_source s)
   chain_next items i None new low within is before =
-      ap (λ xs. filter_map (slice_get (plain_source s).parts) xs ++ parts_from (length s.parts - (i + 1)) (plain_source s).parts (option_and_then (slice_get (plain_source s).parts) new)) (append_none items)
+      ap (λ xs. filter_map (slice_get (plain_source s).parts) xs ++ parts_from (length s.parts - (i + 1)) (plain_source s).parts (option_and_then (slice_get (plain_source s).parts) new)) (append-nil items)
       ∙ ap (λ o. filter_map (slice_get (plain_source s).parts) items ++ parts_from (length s.parts - (i + 1)) (plain_source s).parts o) (then_mapped (plain_part s.names s.formulas) s.parts new ∙ ap (option_map (plain_part s.names s.formulas)) (sym is.0))
       ∙ ap (λ ps. filter_map (slice_get (plain_source s).parts) items ++ ps) (no_more (length s.parts - (i + 1)) (plain_source s).parts ∙ sym (no_more (length s.parts - i) (plain_source s).parts)) ∙ before
   chain_next items i (Some k) new low within is before = step (get_or s.parts k _) (slice_get-get_or s.parts k (part_of s.parts low) within)
@@ -191,13 +181,13 @@ module _ (s : Source) (sound : IsSound s) where
           ∙ ap (λ o. filter_map (slice_get (plain_source s).parts) items ++ parts_from (length s.parts - i) (plain_source s).parts o) (sym here) ∙ before
 
   pub within_next : (items : List ℕ) (o : Option ℕ) → All (λ k. k < length s.parts) items → IfSome o (λ k. k < length s.parts) → All (λ k. k < length s.parts) (items ++ option_to_list o)
-  within_next items None all within = subst (All (λ k. k < length s.parts)) (sym (append_none items)) all
+  within_next items None all within = subst (All (λ k. k < length s.parts)) (sym (append-nil items)) all
   within_next items (Some k) all within = All-push (λ k. k < length s.parts) items k all within
 
   pub chain_first : (items : List ℕ) (o : Option ℕ) → items ≡ [] → IsNumberOf s.parts (length s.parts) (find (λ p. is_none p.after) s.parts) o
       → filter_map (slice_get (plain_source s).parts) items ++ parts_from (length s.parts - 0) (plain_source s).parts (option_and_then (slice_get (plain_source s).parts) o) ≡ chain (plain_source s)
   chain_first items o none is =
-      let all : length s.parts - 0 ≡ length (plain_source s).parts = omega (arith, length_mapped (plain_part s.names s.formulas) s.parts) in
+      let all : length s.parts - 0 ≡ length (plain_source s).parts = omega (arith, length-map s.parts (plain_part s.names s.formulas)) in
       ap (λ xs. filter_map (slice_get (plain_source s).parts) xs ++ parts_from (length s.parts - 0) (plain_source s).parts (option_and_then (slice_get (plain_source s).parts) o)) none
       ∙ ap (λ n. parts_from n (plain_source s).parts (option_and_then (slice_get (plain_source s).parts) o)) all
       ∙ ap (parts_from (length (plain_source s).parts) (plain_source s).parts) (first_plain o is)
@@ -223,8 +213,8 @@ module _ (s : Source) (sound : IsSound s) where
   module _ (once : (at : ℕ) → ¬ (FaultStands (plain_source s) RepeatedPart at)) where
     one_of_name : (i j : ℕ) (p q : plain.Part) → slice_get (plain_source s).parts i ≡ Some p → slice_get (plain_source s).parts j ≡ Some q → p.name.text ≡ q.name.text → p ≡ q
     one_of_name i j p q at_i at_j same =
-        either (less_or_not i j) (λ less. absurd (once q.name.at (repeated_part q.name.at (twice i j p q less at_i at_j same))))
-        (λ more. either (less_or_not j i) (λ less. absurd (once p.name.at (repeated_part p.name.at (twice j i q p less at_j at_i (sym same)))))
+        either (cases_lt i j) (λ less. absurd (once q.name.at (repeated_part q.name.at (twice i j p q less at_i at_j same))))
+        (λ more. either (cases_lt j i) (λ less. absurd (once p.name.at (repeated_part p.name.at (twice j i q p less at_j at_i (sym same)))))
         (λ less. let equal : i ≡ j = omega arith in same_some p q (slice_get (plain_source s).parts j) (ap (slice_get (plain_source s).parts) (sym equal) ∙ at_i) at_j))
       where
         twice : (i j : ℕ) (p q : plain.Part) → i < j → slice_get (plain_source s).parts i ≡ Some p → slice_get (plain_source s).parts j ≡ Some q → p.name.text ≡ q.name.text → Repeats (map (λ p. p.name) (plain_source s).parts) q.name.at

@@ -1,11 +1,13 @@
 -- The first of the faults, looked for in the order of the table.
-use Rattle.std.proofs.Common.{◌≡◌, ◌⊎◌, ℕ, zero, suc, ◌+◌, ◌<◌, ◌≤◌, List, [], ◌∷◌, get_or, None, Some, refl, sym, ap, ◌∙◌, subst, arith}
+use Rattle.std.proofs.Common.{◌≡◌, ℕ, zero, suc, ◌+◌, ◌<◌, ◌≤◌, List, [], ◌∷◌, get_or, None, Some, refl, sym, ap, ◌∙◌, subst, arith}
+use Rattle.std.proofs.lemmas.Bool.{cases_lt}
 use Rattle.dj_tree.specs.Trees.{Source}
 use Rattle.dj_calculus.specs.Faults as line
 use Rattle.dj_calculus.specs.Faults.{Fault, fault_rank}
 use Rattle.dj_calculus.specs.FaultPlaces.{FaultStands}
 use Rattle.dj_calculus.specs.Accepted.{FirstFault, IsAccepted}
 use Rattle.dj_calculus.proofs.Members.{either}
+use Rattle.dj_calculus.proofs.Counting.{earlier_or_last}
 use Rattle.dj_faults.specs.declared.fault.LineFault.{LineFault}
 use Rattle.dj_faults.specs.declared.fault.LineFault.TheVariants.{RepeatedFeature, UnknownFeature, TooManyFeatures, RepeatedDelta, UnknownDelta, DeltaNotPlaced, DeltaPlacedTwice, RepeatedPart, UnknownPart, PartsNoChain, RepeatedOperation, RepeatedMember, RepeatedParameter, ReservedClass, OriginalOutside}
 use Rattle.dj_faults.specs.LeastPlace.{IsLeastPlace}
@@ -67,12 +69,6 @@ rank_low line.RepeatedParameter = omega arith
 rank_low line.ReservedClass = omega arith
 rank_low line.OriginalOutside = omega arith
 
-earlier_or_last : (n i : ℕ) → n < i + 1 → (n < i) ⊎ (n ≡ i)
-earlier_or_last n i low = grind arith
-
-less_or_not : (a b : ℕ) → (a < b) ⊎ (b ≤ a)
-less_or_not a b = grind arith
-
 abbrev pub NoneBelow : Source → ℕ → Type 0
 NoneBelow source i = (other : Fault) (at : ℕ) → fault_rank other < i → ¬ (FaultStands source other at)
 
@@ -88,6 +84,6 @@ pub first_is : (source : Source) (i : ℕ) (d : LineFault) (at : ℕ) → i < 15
 first_is source i d at low before is =
     record {
       stands = is.stands;
-      first = λ other place stands. either (less_or_not (fault_rank other) i) (λ less. absurd (before other place less stands)) (λ more. let rank = at_rank i d low in omega arith);
+      first = λ other place stands. either (cases_lt (fault_rank other) i) (λ less. absurd (before other place less stands)) (λ more. let rank = at_rank i d low in omega arith);
       least = is.least;
     }

@@ -4,7 +4,7 @@ use Rattle.std.specs.List.{filter_map, AllZip}
 use Rattle.std.specs.Option.{option_map}
 use Rattle.std.proofs.lemmas.List.Elements.{All-contains, Contains-append_left, Contains-append_right, Contains-append_cases, Contains-push_cases, Contains-push}
 use Rattle.arena_walk.specs.Tree.{Tree, trees_of, nodes, nodes_each}
-use Rattle.dj_calculus.proofs.Members.{either, filtered_from, mapped_within, no_element}
+use Rattle.dj_calculus.proofs.Members.{either, filtered_from, mapped_within, no_element, mapped_from}
 use Rattle.dj_tree.specs.Plain.{plain_spot, plain_field, plain_method, plain_member}
 use Rattle.dj_tree.specs.WellFormed.{IsKnown, IsField, IsMethod, IsMember}
 use Rattle.dj_tree.specs.declared.declarations.Spot.{Spot}
@@ -19,7 +19,7 @@ use Rattle.dj_faults.specs.LeastPlace.{IsLeastPlace, Among, first_place}
 use Rattle.dj_faults.specs.Numbers.{Again, IsSound}
 use Rattle.dj_faults.specs.Spots.{field_spot, method_spot}
 use Rattle.dj_faults.proofs.LeastLemmas.{least_same, least_either}
-use Rattle.dj_faults.proofs.NameLemmas.{mapped_from, map_named, filter_named, AllKnown}
+use Rattle.dj_faults.proofs.NameLemmas.{map_named, filter_named, AllKnown}
 use Rattle.dj_faults.proofs.ListFaults.{by_repeats}
 
 -- ---- along trees

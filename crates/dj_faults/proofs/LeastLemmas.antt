@@ -1,11 +1,12 @@
 -- Least places: of two facts, and of one more thing of a list.
-use Rattle.std.proofs.Common.{◌≡◌, ◌⊎◌, inl, inr, ℕ, zero, suc, ◌+◌, ◌<◌, ◌≤◌, Bool, true, false, cond, ◌||◌, nat_eq, List, [], ◌∷◌, ◌++◌, length, take, slice_get, min, Option, None, Some, refl, sym, ap, ◌∙◌, subst, arith}
+use Rattle.std.proofs.Common.{◌≡◌, ◌⊎◌, inl, inr, ℕ, zero, suc, ◌+◌, ◌≤◌, Bool, true, false, cond, ◌||◌, nat_eq, List, [], ◌∷◌, ◌++◌, length, take, slice_get, min, Option, None, Some, refl, sym, ap, ◌∙◌, subst, arith}
 use Rattle.std.proofs.lemmas.Option.{slice_get_within, get_or_from_slice_get}
 use Rattle.std.proofs.lemmas.List.{take_more}
 use Rattle.std.proofs.lemmas.List.Folds.{list_any_more}
 use Rattle.std.proofs.lemmas.List.Elements.{Contains-push, Contains-push_cases, Contains-append_left}
 use Rattle.dj_tree.specs.declared.declarations.Spot.{Spot}
 use Rattle.dj_calculus.proofs.Members.{same_some, either}
+use Rattle.dj_calculus.proofs.Counting.{earlier_or_last}
 use Rattle.dj_faults.specs.Numbers.{is_met, Again}
 use Rattle.dj_faults.specs.LeastPlace.{IsLeastPlace, Among, first_place}
 
@@ -70,9 +71,6 @@ least_untest true at = least_nowhere _ (λ place h. differ h.0)
     differ e = absurd cc
 
 -- ---- names that stood before
-
-earlier_or_last : (n i : ℕ) → n < i + 1 → (n < i) ⊎ (n ≡ i)
-earlier_or_last n i low = grind arith
 
 pub again_next : (spots : List Spot) (i : ℕ) (x : Spot) (a : Option ℕ) → slice_get spots i ≡ Some x → IsLeastPlace (Again spots i) a
     → IsLeastPlace (Again spots (i + 1)) (first_place a (cond (is_met (take i spots) x.name.0) (Some x.at) None))

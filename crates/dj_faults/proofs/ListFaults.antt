@@ -4,7 +4,8 @@ use Rattle.std.specs.List.{filter_map, flat_map}
 use Rattle.std.specs.Option.{option_map}
 use Rattle.std.proofs.lemmas.List.Elements.{All-contains}
 use Rattle.std.proofs.lemmas.Option.{slice_get-map, slice_get-get_or, slice_get_within}
-use Rattle.dj_calculus.proofs.Members.{same_some, mapped, filtered_from, kept_by, mapped_within}
+use Rattle.std.proofs.lemmas.List.{map-append}
+use Rattle.dj_calculus.proofs.Members.{same_some, mapped, filtered_from, kept_by, mapped_within, mapped_from, from_flat}
 use Rattle.dj_names.specs.Texts.{Text}
 use Rattle.dj_tree.specs.Trees as plain
 use Rattle.dj_tree.specs.Plain.{plain_spot, plain_source, plain_item, plain_part, plain_delta}
@@ -22,21 +23,17 @@ use Rattle.dj_calculus.specs.FaultPlaces.{most_features, Repeats, FaultStands, t
 use Rattle.dj_faults.specs.LeastPlace.{IsLeastPlace, Among}
 use Rattle.dj_faults.specs.Numbers.{Again, Unmet, IsSound}
 use Rattle.dj_faults.proofs.LeastLemmas.{least_same, least_nowhere}
-use Rattle.dj_faults.proofs.NameLemmas.{mapped_from, flat_from, map_named, filter_named, AllKnown, Unnamed, least_repeats, least_unknown}
-
-pub map_joined : {A B : Type 0} (f : A → B) (xs ys : List A) → map f (xs ++ ys) ≡ map f xs ++ map f ys
-map_joined f [] ys = refl
-map_joined f (x ∷ xs) ys = ap (λ zs. f x ∷ zs) (map_joined f xs ys)
+use Rattle.dj_faults.proofs.NameLemmas.{map_named, filter_named, AllKnown, Unnamed, least_repeats, least_unknown}
 
 -- the names of the items, which the code gathers part by part
 items_named : (names : List Text) (formulas : List FormulaNode) (parts : List PartDecl)
     → map (λ i. i.delta) (flat_map (λ p. p.items) (map (plain_part names formulas) parts)) ≡ map (plain_spot names) (flat_map (λ p. map (λ i. i.delta) p.items) parts)
 items_named names formulas [] = refl
 items_named names formulas (p ∷ parts) =
-    map_joined (λ i. i.delta) (map (plain_item names formulas) p.items) _
+    map-append (λ i. i.delta) (map (plain_item names formulas) p.items) _
     ∙ ap (λ zs. map (λ i. i.delta) (map (plain_item names formulas) p.items) ++ zs) (items_named names formulas parts)
     ∙ ap (λ zs. zs ++ map (plain_spot names) (flat_map (λ p. map (λ i. i.delta) p.items) parts)) (map_named (λ i. i.delta) (λ i. i.delta) (plain_item names formulas) (plain_spot names) (λ i. refl) p.items)
-    ∙ sym (map_joined (plain_spot names) (map (λ i. i.delta) p.items) (flat_map (λ p. map (λ i. i.delta) p.items) parts))
+    ∙ sym (map-append (plain_spot names) (map (λ i. i.delta) p.items) (flat_map (λ p. map (λ i. i.delta) p.items) parts))
 
 module _ (s : Source) (sound : IsSound s) where
   -- ---- the names as the code gathers them
@@ -56,7 +53,7 @@ module _ (s : Source) (sound : IsSound s) where
 
   known_items : AllKnown s.names (flat_map (λ p. map (λ i. i.delta) p.items) s.parts)
   known_items x there =
-      let p = flat_from (λ (p : PartDecl). map (λ i. i.delta) p.items) s.parts x there in
+      let p = from_flat (λ (p : PartDecl). map (λ i. i.delta) p.items) s.parts x there in
       let i = mapped_from (λ (i : Item). i.delta) p.0.items x p.2 in
       let items = (All-contains (IsPart s.names s.formulas) s.parts p.0 sound.formed.parts p.1).items in
       subst (IsKnown s.names) i.2 (All-contains (IsItem s.names s.formulas) p.0.items i.0 items i.1).delta

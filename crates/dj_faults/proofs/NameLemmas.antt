@@ -1,14 +1,13 @@
 -- Names by their numbers stand for names by their texts, where the texts of a table are distinct.
 use Rattle.std.proofs.Common.{◌≡◌, ℕ, zero, suc, ◌<◌, Bool, true, false, ◌||◌, List, [], ◌∷◌, length, take, map, slice_get, unwrap_or, nat_eq, Contains, Option, None, Some, refl, sym, ap, ◌∙◌, arith}
-use Rattle.std.specs.List.{filter_map, cons_option, flat_map}
+use Rattle.std.specs.List.{filter_map, cons_option}
 use Rattle.std.specs.Option.{option_map}
 use Rattle.std.specs.Str.{bytes_eq}
 use Rattle.std.proofs.lemmas.Slice.Eq.{bytes_eq-Decides}
 use Rattle.std.proofs.lemmas.Bool.Decides.{Decides-eqb, Decides-like, same_from_decides}
-use Rattle.std.proofs.lemmas.List.Elements.{Contains-append_cases}
 use Rattle.std.proofs.lemmas.Option.{slice_get-map, slice_get_within}
 use Rattle.dj_calculus.proofs.Counting.{got_within}
-use Rattle.dj_calculus.proofs.Members.{either, mapped, mapped_within, no_element, first_or_other, among_others}
+use Rattle.dj_calculus.proofs.Members.{mapped, mapped_within, among_others, mapped_from}
 use Rattle.dj_calculus.specs.FaultPlaces.{Repeats}
 use Rattle.dj_faults.specs.LeastPlace.{IsLeastPlace, Among}
 use Rattle.dj_faults.specs.Numbers.{Again}
@@ -25,19 +24,6 @@ pub present : {X : Type 0} (xs : List X) (k : ℕ) (d : X) → k < length xs →
 present [] k d low = absurd (omega arith)
 present (x ∷ xs) zero d low = refl
 present (x ∷ xs) (suc k) d low = present xs k d (omega arith)
-
--- where an element of a mapped list is from
-pub mapped_from : {X Y : Type 0} (f : X → Y) (xs : List X) (y : Y) → Contains (map f xs) y → (x : X) × Contains xs x × (f x ≡ y)
-mapped_from f [] y within = no_element y within
-mapped_from f (x ∷ xs) y within =
-    either (first_or_other (f x) y (map f xs) within) (λ same. (x, (0, omega arith, refl), same))
-    (λ later. let found = mapped_from f xs y later in (found.0, among_others x found.0 xs found.1, found.2))
-
-pub flat_from : {X Y : Type 0} (f : X → List Y) (xs : List X) (y : Y) → Contains (flat_map f xs) y → (x : X) × Contains xs x × Contains (f x) y
-flat_from f [] y within = no_element y within
-flat_from f (x ∷ xs) y within =
-    either (Contains-append_cases (f x) (flat_map f xs) y within) (λ here. (x, (0, omega arith, refl), here))
-    (λ later. let found = flat_from f xs y later in (found.0, among_others x found.0 xs found.1, found.2))
 
 -- the names of things, and of what they stand for
 pub map_named : {X Y A B : Type 0} (f : X → A) (g : Y → B) (p : X → Y) (q : A → B) → ((x : X) → g (p x) ≡ q (f x)) → (xs : List X) → map g (map p xs) ≡ map q (map f xs)

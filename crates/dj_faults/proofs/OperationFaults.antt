@@ -2,7 +2,7 @@
 use Rattle.std.proofs.Common.{◌≡◌, ◌⊎◌, inl, inr, ℕ, List, [], length, map, All, Contains, Option, None, Some, slice_get, refl, sym, ap, ◌∙◌, subst, arith}
 use Rattle.std.specs.List.{filter_map, flat_map}
 use Rattle.std.proofs.lemmas.List.Elements.{All-contains, Contains-append_left, Contains-append_right, Contains-append_cases}
-use Rattle.dj_calculus.proofs.Members.{either, first_or_other, among_others, filtered_from, kept_by, mapped_within, within_flat}
+use Rattle.dj_calculus.proofs.Members.{either, first_or_other, among_others, filtered_from, kept_by, mapped_within, within_flat, mapped_from, from_flat}
 use Rattle.dj_tree.specs.Trees as plain
 use Rattle.dj_tree.specs.Trees.{adds_class, modifies_class, removes_class, adds_field, adds_method, modifies_method, removes_field, removes_method}
 use Rattle.dj_tree.specs.Plain.{plain_spot, plain_source, plain_operation, plain_delta, plain_item, plain_part}
@@ -21,7 +21,7 @@ use Rattle.dj_faults.specs.Numbers.{Again, IsSound}
 use Rattle.dj_faults.specs.Spots.{class_spot}
 use Rattle.dj_faults.specs.Inside.{UnknownName, InCondition, UnknownInItem, InMethod, InModified, InMember, InOperation, OnObject}
 use Rattle.dj_faults.proofs.LeastLemmas.{least_same}
-use Rattle.dj_faults.proofs.NameLemmas.{present, mapped_from, flat_from, map_named, AllKnown}
+use Rattle.dj_faults.proofs.NameLemmas.{present, map_named, AllKnown}
 use Rattle.dj_faults.proofs.ListFaults.{by_repeats}
 
 module _ (s : Source) where
@@ -37,7 +37,7 @@ module _ (s : Source) where
 
   all_from : (P : plain.Operation → ℕ → Type 0) (at : ℕ) → Among P (operations_of (plain_source s)) at → Among (λ d. Among (λ o. P (plain_operation s.names s.exprs o)) d.ops) s.deltas at
   all_from P at (op, there, h) =
-      let delta = flat_from (λ (d : plain.Delta). d.operations) (map (plain_delta s.names s.exprs) s.deltas) op there in
+      let delta = from_flat (λ (d : plain.Delta). d.operations) (map (plain_delta s.names s.exprs) s.deltas) op there in
       let d = mapped_from (plain_delta s.names s.exprs) s.deltas delta.0 delta.1 in
       let o = mapped_from (plain_operation s.names s.exprs) d.0.ops op (subst (λ (x : plain.Delta). Contains x.operations op) (sym d.2) delta.2) in
       (d.0, d.1, (o.0, o.1, subst (λ x. P x at) (sym o.2) h))
@@ -98,15 +98,15 @@ module _ (s : Source) where
   in_new : (fault : Inside) (m : plain.Method) (at : ℕ) → Contains (new_methods (plain_source s)) m → InMethod fault m at → Among (InOperation fault) (operations_of (plain_source s)) at
   in_new fault m at within h =
       either (Contains-append_cases (flat_map (λ c. c.methods) (classes_of (plain_source s))) (flat_map (λ c. filter_map method_added c.members) (changes_of (plain_source s))) m within)
-      (λ in_class. let c = flat_from (λ (c : plain.Class). c.methods) (classes_of (plain_source s)) m in_class in (adds_class c.0, class_within c.0 c.1, inr (m, c.2, h)))
+      (λ in_class. let c = from_flat (λ (c : plain.Class). c.methods) (classes_of (plain_source s)) m in_class in (adds_class c.0, class_within c.0 c.1, inr (m, c.2, h)))
       (λ in_change.
-      let c = flat_from (λ (c : plain.Change). filter_map method_added c.members) (changes_of (plain_source s)) m in_change in
+      let c = from_flat (λ (c : plain.Change). filter_map method_added c.members) (changes_of (plain_source s)) m in_change in
       let o = filtered_from method_added c.0.members m c.2 in
       (modifies_class c.0, change_within c.0 c.1, inr (o.0, o.1, subst (λ x. InMember fault x at) (sym (method_added_is o.0 m o.2)) h)))
 
   in_modified : (fault : Inside) (m : plain.Method) (at : ℕ) → Contains (modified_methods (plain_source s)) m → InModified fault m at → Among (InOperation fault) (operations_of (plain_source s)) at
   in_modified fault m at within h =
-      let c = flat_from (λ (c : plain.Change). filter_map method_modified c.members) (changes_of (plain_source s)) m within in
+      let c = from_flat (λ (c : plain.Change). filter_map method_modified c.members) (changes_of (plain_source s)) m within in
       let o = filtered_from method_modified c.0.members m c.2 in
       (modifies_class c.0, change_within c.0 c.1, inr (o.0, o.1, subst (λ x. InMember fault x at) (sym (method_modified_is o.0 m o.2)) h))
 
@@ -238,7 +238,7 @@ module _ (s : Source) where
           (λ same. inl (subst (λ g. UnknownName (plain_source s).features g x.at) (sym same) (x, there, (un, refl))))
           (λ later.
           let item = filtered_from (λ (i : plain.Item). i.condition) (items_of (plain_source s)) f later in
-          let part = flat_from (λ (p : plain.Part). p.items) (plain_source s).parts item.0 item.1 in
+          let part = from_flat (λ (p : plain.Part). p.items) (plain_source s).parts item.0 item.1 in
           let p = mapped_from (plain_part s.names s.formulas) s.parts part.0 part.1 in
           let i = mapped_from (plain_item s.names s.formulas) p.0.items item.0 (subst (λ (y : plain.Part). Contains y.items item.0) (sym p.2) part.2) in
           inr (p.0, p.1, (i.0, i.1, subst (λ c. InCondition (plain_source s).features c x.at) (sym (ap (λ (y : plain.Item). y.condition) i.2 ∙ item.2)) (x, there, (un, refl)))))

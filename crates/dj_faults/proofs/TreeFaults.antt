@@ -1,12 +1,12 @@
 -- Faults in formulas and in bodies, by the nodes of the code.
-use Rattle.std.proofs.Common.{◌≡◌, ℕ, zero, suc, ◌<◌, Bool, false, List, [], ◌∷◌, ◌++◌, length, map, Contains, Option, Some, slice_get, unwrap_or, refl, sym, ap, ◌∙◌, subst, arith}
+use Rattle.std.proofs.Common.{◌≡◌, ℕ, ◌<◌, Bool, false, List, length, map, Contains, Option, Some, unwrap_or, refl, sym, ap, ◌∙◌, subst}
 use Rattle.std.specs.List.{filter_map}
 use Rattle.std.specs.Option.{option_map}
 use Rattle.std.proofs.lemmas.List.Elements.{All-contains}
-use Rattle.arena_walk.specs.Tree.{Tree, Trees, branch, no_trees, tree_and, over, trees_of, nodes, nodes_each, fold_each}
+use Rattle.arena_walk.specs.Tree.{Tree, nodes}
 use Rattle.arena_walk.specs.Forest.{tree_at}
 use Rattle.arena_walk.proofs.Visitors.{tree_at_node, in_arena}
-use Rattle.dj_calculus.proofs.Members.{filtered_from, kept_by, mapped_within}
+use Rattle.dj_calculus.proofs.Members.{filtered_from, kept_by, mapped_within, mapped_from}
 use Rattle.dj_names.specs.Texts.{Text}
 use Rattle.dj_tree.specs.Trees as plain
 use Rattle.dj_tree.specs.Trees.{OriginalForm}
@@ -19,29 +19,16 @@ use Rattle.dj_tree.specs.declared.formula.FormulaNode.TheVariants.{True, False, 
 use Rattle.dj_tree.specs.declared.expression.ExprNode.{ExprNode}
 use Rattle.dj_tree.specs.declared.expression.ExprNode.TheVariants.{Variable, This, Null, Field, Call, New, Cast, Assign, Original}
 use Rattle.dj_tree.specs.declared.source.Source.{Source}
+use Rattle.dj_tree.proofs.InForm.{nodes_in_form}
 use Rattle.dj_calculus.specs.Formulas.{name_in}
 use Rattle.dj_calculus.specs.Configurations.{is_named}
+use Rattle.dj_calculus.proofs.Counting.{there_is}
 use Rattle.dj_faults.specs.LeastPlace.{IsLeastPlace, Among}
 use Rattle.dj_faults.specs.Numbers.{IsSound, is_met}
 use Rattle.dj_faults.specs.Inside.{UnknownIn, OriginalIn, UnknownName}
 use Rattle.dj_faults.proofs.LeastLemmas.{least_same}
-use Rattle.dj_faults.proofs.NameLemmas.{mapped_from, met_is_named}
-use Rattle.dj_faults.proofs.ListFaults.{map_joined, known_features}
-
-mutual
-  nodes_formed : {N F : Type 0} (form : N → F) (t : Tree N) → nodes (in_form form t) ≡ map form (nodes t)
-  nodes_formed form (branch n ks) = ap (λ ns. ns ++ form n ∷ []) (nodes_formed_each form ks) ∙ sym (map_joined form (nodes_each ks) (n ∷ []))
-
-  nodes_formed_each : {N F : Type 0} (form : N → F) (ks : Trees N) → nodes_each (trees_of (fold_each (λ n parts. over (form n) parts) ks)) ≡ map form (nodes_each ks)
-  nodes_formed_each form no_trees = refl
-  nodes_formed_each form (tree_and t ks) =
-      ap (λ ns. ns ++ nodes_each (trees_of (fold_each (λ n parts. over (form n) parts) ks))) (nodes_formed form t)
-      ∙ ap (λ ns. map form (nodes t) ++ ns) (nodes_formed_each form ks) ∙ sym (map_joined form (nodes t) (nodes_each ks))
-
-there_is : {X : Type 0} (xs : List X) (k : ℕ) → k < length xs → (x : X) × (slice_get xs k ≡ Some x)
-there_is [] k low = absurd (omega arith)
-there_is (x ∷ xs) zero low = (x, refl)
-there_is (x ∷ xs) (suc k) low = there_is xs k (omega arith)
+use Rattle.dj_faults.proofs.NameLemmas.{met_is_named}
+use Rattle.dj_faults.proofs.ListFaults.{known_features}
 
 root_tree : {N : Type 0} (arity : N → ℕ) (ns : List N) (root : ℕ) → root < length ns → (t : Tree N) × (tree_at arity ns root ≡ Some t)
 root_tree arity ns root low = let n = there_is ns root low in (_, tree_at_node arity ns root n.0 n.1)
@@ -75,7 +62,7 @@ pub least_original : (names : List Text) (exprs : List ExprNode) (root : ℕ) (o
 least_original names exprs root o low each =
     let tree = root_tree expr_arity exprs root low in
     let formed : nodes (plain_expr names exprs root) ≡ map (expr_form names) (nodes tree.0) =
-    ap (λ t. nodes (unwrap_or (option_map (in_form (expr_form names)) t) (plain.null_at 0))) tree.1 ∙ nodes_formed (expr_form names) tree.0 in
+    ap (λ t. nodes (unwrap_or (option_map (in_form (expr_form names)) t) (plain.null_at 0))) tree.1 ∙ nodes_in_form (expr_form names) tree.0 in
     subst (λ ns. IsLeastPlace (λ at. Contains ns (OriginalForm at)) o) (sym formed)
     (least_same o
     (λ at h. subst (Contains (map (expr_form names) (nodes tree.0))) (original_form names h.0 at h.2) (mapped_within (expr_form names) (nodes tree.0) h.0 h.1))
@@ -117,7 +104,7 @@ module _ (s : Source) (sound : IsSound s) (known : ℕ → Bool) (test : (n : �
       let tree = root_tree formula_arity s.formulas root low in
       let form = formula_form s.names in
       let formed : nodes (plain_formula s.names s.formulas root) ≡ map (formula_form s.names) (nodes tree.0) =
-      ap (λ t. nodes (unwrap_or (option_map (in_form (formula_form s.names)) t) plain.always)) tree.1 ∙ nodes_formed (formula_form s.names) tree.0 in
+      ap (λ t. nodes (unwrap_or (option_map (in_form (formula_form s.names)) t) plain.always)) tree.1 ∙ nodes_in_form (formula_form s.names) tree.0 in
       subst (λ ns. IsLeastPlace (λ at. (x : plain.Spot) × Contains (filter_map name_in ns) x × ((is_named (map (plain_spot s.names) s.features) x.text ≡ false) × (x.at ≡ at))) o) (sym formed)
       (least_same o (to tree.0 tree.1) (from tree.0 tree.1) (each tree.0 tree.1))
     where

@@ -1,9 +1,7 @@
 -- What the grammar spells is read.
-use Rattle.std.proofs.Common.{◌≡◌, ℕ, ◌≤◌, Bool, true, false, List, [], ◌∷◌, ◌++◌, refl, sym, ap, ap₂, ◌∙◌, append_assoc, arith}
+use Rattle.std.proofs.Common.{◌≡◌, ℕ, ◌≤◌, List, [], ◌∷◌, ◌++◌, refl, sym, ap, ap₂, ◌∙◌, append_assoc, arith}
 use Rattle.std.proofs.lemmas.List.{append-nil}
 use Rattle.std.specs.Prelude.{codes}
-use Rattle.std.specs.Str.{bytes_eq}
-use Rattle.std.proofs.lemmas.Slice.Eq.{bytes_eq-Decides}
 use Rattle.arena_walk.specs.Tree.{nodes}
 use Rattle.dj_lexer.specs.Symbols.{Symbol}
 use Rattle.dj_tree.specs.Words.{word, sign, named, IsName, is_reserved}
@@ -14,6 +12,7 @@ use Rattle.dj_formula_reader.specs.declared.machine.Frame.{Frame}
 use Rattle.dj_formula_reader.specs.declared.machine.Frame.TheVariants.{Open, Same, Implies, Or, And, Not}
 use Rattle.dj_formula_reader.specs.Machine.{waiting, holding, go, rank_of, left_by, kept, passed, take_operator, step, run}
 use Rattle.dj_formula_reader.proofs.Frames.{AtLeast, Below, leaves, looser, still_below, and_one, leaves-and_one, kept-top, passed-top}
+use Rattle.dj_reader.proofs.Symbols.{not_word}
 
 -- how tightly the operators of a level bind at least, and what may be open around it
 abbrev pub tightness : FormulaLevel → ℕ
@@ -71,14 +70,6 @@ two f form left op tight inner steps l {frames = frames} {forms = forms} {s = s}
   where
     next_step : (rest : List Symbol) → run (holding (x.opened ++ frames) (forms ++ x.made)) (op ∷ rest) ≡ run (waiting (f ∷ frames) (forms ++ nodes a)) rest
     next_step rest = let done = finished x below in rw (steps (x.opened ++ frames) (forms ++ x.made), done.0, done.1) refl
-
--- a word that is a name is none of the reserved ones
-not_word : (x : Spot) → IsName x → (text : List ℕ) → is_reserved text ≡ true → bytes_eq x.text text ≡ false
-not_word x i text r = by_test (bytes_eq x.text text) refl
-  where
-    by_test : (b : Bool) → bytes_eq x.text text ≡ b → b ≡ false
-    by_test true h = let same : x.text ≡ text = (bytes_eq-Decides x.text text).0 h in let clash : true ≡ false = sym r ∙ ap is_reserved (sym same) ∙ i in absurd cc
-    by_test false h = refl
 
 leaf : (s : Symbol) (form : FormulaForm) (frames : List Frame) (forms : List FormulaForm) (a : Formula) → nodes a ≡ form ∷ []
     → step (waiting frames forms) s ≡ go (holding frames (forms ++ form ∷ [])) → Settled 5 frames forms (s ∷ []) a

@@ -1,6 +1,7 @@
 -- Finishing the operators on top.
 use Rattle.std.proofs.Common.{◌≡◌, ℕ, ◌≤◌, ◌<◌, List, [], ◌∷◌, ◌++◌, refl, sym, ap, ◌∙◌, append_assoc, arith}
 use Rattle.std.proofs.lemmas.Bool.{le-leb, lt-leb}
+use Rattle.std.proofs.lemmas.List.{append-nil}
 use Rattle.dj_tree.specs.Trees.{FormulaForm}
 use Rattle.dj_formula_reader.specs.declared.machine.Frame.{Frame}
 use Rattle.dj_formula_reader.specs.Machine.{rank_of, left_by, kept, passed}
@@ -33,11 +34,7 @@ and_one rank [] f a l = (l, tt)
 and_one rank (g ∷ frames) f a l = (a.0, and_one rank frames f a.1 l)
 
 pub leaves-and_one : (frames : List Frame) (f : Frame) → leaves (frames ++ f ∷ []) ≡ leaves frames ++ left_by f
-leaves-and_one [] f = append_nil_end (left_by f)
-  where
-    append_nil_end : (l : List FormulaForm) → l ++ [] ≡ l
-    append_nil_end [] = refl
-    append_nil_end (x ∷ l) = ap (λ k. x ∷ k) (append_nil_end l)
+leaves-and_one [] f = append-nil (left_by f)
 leaves-and_one (g ∷ frames) f = ap (λ l. left_by g ++ l) (leaves-and_one frames f) ∙ sym (append_assoc (left_by g) (leaves frames) (left_by f))
 
 -- just those on top are finished

@@ -1,6 +1,6 @@
 -- Each step of the machine goes on with the beginning of a formula, ends one, or is stuck.
 use Rattle.std.proofs.Common.{◌≡◌, ℕ, ◌≤◌, ◌<◌, Bool, true, false, cond, List, [], ◌∷◌, ◌++◌, refl, sym, ap, subst, ◌∙◌, append_assoc, arith}
-use Rattle.std.proofs.lemmas.Bool.{leb-false}
+use Rattle.std.proofs.lemmas.Bool.{leb-false, cond_both}
 use Rattle.std.specs.Prelude.{codes, nat_le}
 use Rattle.arena_walk.specs.Tree.{nodes}
 use Rattle.dj_lexer.specs.Symbols.{Symbol}
@@ -36,10 +36,6 @@ Comes s x (go state) = Reached state (s ++ x ∷ [])
 Comes s x (finish forms) = Whole forms s × (x ≡ sign (codes ";") x.at)
 Comes s x stuck = Unit {0}
 
-by_test : {M : Type 0} (P : M → Type 0) (b : Bool) (m n : M) → (b ≡ true → P m) → (b ≡ false → P n) → P (cond b m n)
-by_test P true m n f g = f refl
-by_test P false m n f g = g refl
-
 -- ---- operands
 
 operand : {frames : List Frame} {forms : List FormulaForm} {s : List Symbol} (x : Symbol) (form : FormulaForm) (a : Formula) → Waits frames forms s → SpellsAt Negations (x ∷ []) a
@@ -68,15 +64,15 @@ operand {frames = frames} {forms = forms} {s = s} x form a w p e =
 
 waiting_step : (frames : List Frame) (forms : List FormulaForm) (s : List Symbol) (x : Symbol) → Waits frames forms s → Comes s x (step (waiting frames forms) x)
 waiting_step frames forms s x w =
-    by_test (Comes s x) (is_the_sign (codes "!") x) _ _
+    cond_both (is_the_sign (codes "!") x) _ _ (Comes s x)
     (λ h. let P : Symbol → Type 0 = λ y. Waits (Not ∷ frames) forms (s ++ y ∷ []) in subst P (sym (sign_is (codes "!") x h)) (negates x.at w))
-    (λ _. by_test (Comes s x) (is_the_sign (codes "(") x) _ _
+    (λ _. cond_both (is_the_sign (codes "(") x) _ _ (Comes s x)
     (λ h. let P : Symbol → Type 0 = λ y. Waits (Open ∷ frames) forms (s ++ y ∷ []) in subst P (sym (sign_is (codes "(") x h)) (opens x.at w))
-    (λ _. by_test (Comes s x) (is_the_word (codes "true") x) _ _
+    (λ _. cond_both (is_the_word (codes "true") x) _ _ (Comes s x)
     (λ h. let P : Symbol → Type 0 = λ y. SpellsAt Negations (y ∷ []) always in operand x TrueForm always w (subst P (sym (word_is (codes "true") x h)) (grammar.true_word x.at)) refl)
-    (λ _. by_test (Comes s x) (is_the_word (codes "false") x) _ _
+    (λ _. cond_both (is_the_word (codes "false") x) _ _ (Comes s x)
     (λ h. let P : Symbol → Type 0 = λ y. SpellsAt Negations (y ∷ []) never in operand x FalseForm never w (subst P (sym (word_is (codes "false") x h)) (grammar.false_word x.at)) refl)
-    (λ _. by_test (Comes s x) (is_a_name x) _ _
+    (λ _. cond_both (is_a_name x) _ _ (Comes s x)
     (λ h. let P : Symbol → Type 0 = λ y. SpellsAt Negations (y ∷ []) (feature (spot_of x)) in
     let n = name_is x h in operand x (FeatureForm (spot_of x)) (feature (spot_of x)) w (subst P (sym n.0) (grammar.feature_name (spot_of x) n.1)) refl)
     (λ _. tt)))))
@@ -216,12 +212,12 @@ ending [] forms s x is h = (of h.waits h.spelled h.fits h.forms_are h.symbols_ar
 
 holding_step : (frames : List Frame) (forms : List FormulaForm) (s : List Symbol) (x : Symbol) → Holds 5 frames forms s → Comes s x (step (holding frames forms) x)
 holding_step frames forms s x h =
-    by_test (Comes s x) (is_either (codes "&") (codes "&&") x) _ _ (λ t. one_and (is_the_sign (codes "&") x) refl t)
-    (λ _. by_test (Comes s x) (is_either (codes "|") (codes "||") x) _ _ (λ t. one_or (is_the_sign (codes "|") x) refl t)
-    (λ _. by_test (Comes s x) (is_the_sign (codes "->") x) _ _ (λ t. at_sign (take_operator Implies 3 frames forms) (codes "->") t (operator Implies 3 (omega arith) (omega arith) (omega arith) room_implies (is_implies x.at) frames forms s h))
-    (λ _. by_test (Comes s x) (is_the_sign (codes "<->") x) _ _ (λ t. at_sign (take_operator Same 1 frames forms) (codes "<->") t (operator Same 1 (omega arith) (omega arith) (omega arith) room_same (is_same x.at) frames forms s h))
-    (λ _. by_test (Comes s x) (is_the_sign (codes ")") x) _ _ (λ t. at_sign (close_bracket (kept 1 frames) (forms ++ passed 1 frames)) (codes ")") t (closing (kept 1 frames) (forms ++ passed 1 frames) s x.at done))
-    (λ _. by_test (Comes s x) (is_the_sign (codes ";") x) _ _ (λ t. ending (kept 1 frames) (forms ++ passed 1 frames) s x (sign_is (codes ";") x t) done) (λ _. tt))))))
+    cond_both (is_either (codes "&") (codes "&&") x) _ _ (Comes s x) (λ t. one_and (is_the_sign (codes "&") x) refl t)
+    (λ _. cond_both (is_either (codes "|") (codes "||") x) _ _ (Comes s x) (λ t. one_or (is_the_sign (codes "|") x) refl t)
+    (λ _. cond_both (is_the_sign (codes "->") x) _ _ (Comes s x) (λ t. at_sign (take_operator Implies 3 frames forms) (codes "->") t (operator Implies 3 (omega arith) (omega arith) (omega arith) room_implies (is_implies x.at) frames forms s h))
+    (λ _. cond_both (is_the_sign (codes "<->") x) _ _ (Comes s x) (λ t. at_sign (take_operator Same 1 frames forms) (codes "<->") t (operator Same 1 (omega arith) (omega arith) (omega arith) room_same (is_same x.at) frames forms s h))
+    (λ _. cond_both (is_the_sign (codes ")") x) _ _ (Comes s x) (λ t. at_sign (close_bracket (kept 1 frames) (forms ++ passed 1 frames)) (codes ")") t (closing (kept 1 frames) (forms ++ passed 1 frames) s x.at done))
+    (λ _. cond_both (is_the_sign (codes ";") x) _ _ (Comes s x) (λ t. ending (kept 1 frames) (forms ++ passed 1 frames) s x (sign_is (codes ";") x t) done) (λ _. tt))))))
   where
     done : Holds 1 (kept 1 frames) (forms ++ passed 1 frames) s
     done =

@@ -1,5 +1,5 @@
 -- Bytes say one line at most, or are refused for one reason.
-use Rattle.std.proofs.Common.{◌≡◌, ℕ, List, length, refl, sym, ap, subst, ◌∙◌, arith}
+use Rattle.std.proofs.Common.{◌≡◌, ℕ, List, length, refl, ap, subst, ◌∙◌, arith}
 use Rattle.dj_lexer.specs.Symbols.{symbols_of}
 use Rattle.dj_lexer.specs.Faults.{HasTokens}
 use Rattle.dj_lexer.specs.Laws as lexer
@@ -10,55 +10,13 @@ use Rattle.dj_tree.specs.Spells.{Spells}
 use Rattle.dj_parser.specs.Refusals.{IsLineRefusedAt}
 use Rattle.dj_parser.proofs.Grammars.{one_line_place, no_line_refused}
 use Rattle.dj_declarations.specs.Laws.{OneSource}
-use Rattle.dj_calculus.specs.Faults as plain
-use Rattle.dj_calculus.specs.Faults.{Fault}
 use Rattle.dj_calculus.specs.Accepted.{FirstFault}
 use Rattle.dj_calculus.specs.Laws.{OneFirstFault}
 use Rattle.dj_faults.specs.LineFaults.{fault_of}
-use Rattle.dj_faults.specs.declared.fault.LineFault.{LineFault}
-use Rattle.dj_faults.specs.declared.fault.LineFault.TheVariants.{RepeatedFeature, UnknownFeature, TooManyFeatures, RepeatedDelta, UnknownDelta, DeltaNotPlaced, DeltaPlacedTwice, RepeatedPart, UnknownPart, PartsNoChain, RepeatedOperation, RepeatedMember, RepeatedParameter, ReservedClass, OriginalOutside}
 use Rattle.dj_report.specs.declared.refusal.Refusal.TheVariants.{Lex, Syntax, Line}
 use Rattle.dj_front.specs.Files.{HasTokenList, too_long, no_tokens, no_source, at_fault}
 use Rattle.dj_front.specs.Laws.{OneLine, OneRefusal, NoRefusedLine}
-
--- ---- the fault of the code is told by the fault that it stands for
-
-abbrev told : Fault → LineFault
-told plain.RepeatedFeature = RepeatedFeature
-told plain.UnknownFeature = UnknownFeature
-told plain.TooManyFeatures = TooManyFeatures
-told plain.RepeatedDelta = RepeatedDelta
-told plain.UnknownDelta = UnknownDelta
-told plain.DeltaNotPlaced = DeltaNotPlaced
-told plain.DeltaPlacedTwice = DeltaPlacedTwice
-told plain.RepeatedPart = RepeatedPart
-told plain.UnknownPart = UnknownPart
-told plain.PartsNoChain = PartsNoChain
-told plain.RepeatedOperation = RepeatedOperation
-told plain.RepeatedMember = RepeatedMember
-told plain.RepeatedParameter = RepeatedParameter
-told plain.ReservedClass = ReservedClass
-told plain.OriginalOutside = OriginalOutside
-
-told-fault_of : (fault : LineFault) → told (fault_of fault) ≡ fault
-told-fault_of RepeatedFeature = refl
-told-fault_of UnknownFeature = refl
-told-fault_of TooManyFeatures = refl
-told-fault_of RepeatedDelta = refl
-told-fault_of UnknownDelta = refl
-told-fault_of DeltaNotPlaced = refl
-told-fault_of DeltaPlacedTwice = refl
-told-fault_of RepeatedPart = refl
-told-fault_of UnknownPart = refl
-told-fault_of PartsNoChain = refl
-told-fault_of RepeatedOperation = refl
-told-fault_of RepeatedMember = refl
-told-fault_of RepeatedParameter = refl
-told-fault_of ReservedClass = refl
-told-fault_of OriginalOutside = refl
-
-one_fault_of : (f g : LineFault) → fault_of f ≡ fault_of g → f ≡ g
-one_fault_of f g same = sym (told-fault_of f) ∙ ap told same ∙ told-fault_of g
+use Rattle.dj_line.proofs.SourceAnswers.{same_code}
 
 -- ---- one answer
 
@@ -103,7 +61,7 @@ module _ (one_list : lexer.OneTokenList) (no_fault : lexer.NoFaultInTokens) (one
   one_refusal bytes _ _ (at_fault t s f a has spelled first) (at_fault u r g b also spelled_u second) =
       let source : r ≡ s = one_source (symbols_of bytes t) r s (spelled_too bytes t u r has also spelled_u) spelled in
       let here : FirstFault s (fault_of g) b = subst (λ x. FirstFault x (fault_of g) b) source second in
-      let fault : f ≡ g = one_fault_of f g (one_fault.same_fault s (fault_of f) (fault_of g) a b first here) in
+      let fault : f ≡ g = same_code f g (one_fault.same_fault s (fault_of f) (fault_of g) a b first here) in
       let place : a ≡ b = one_fault.same_place s (fault_of g) a b (subst (λ x. FirstFault s (fault_of x) a) fault first) here in
       ap (λ x. Line x a) fault ∙ ap (Line g) place
 

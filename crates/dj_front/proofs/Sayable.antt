@@ -1,6 +1,6 @@
 -- A refusal that bytes are refused for stands in them, and a name is said where its text takes one.
-use Rattle.std.proofs.Common.{◌≡◌, ◌≤◌, ◌<◌, ℕ, zero, suc, List, [], ◌∷◌, map, length, refl, sym, ap, subst, arith, Contains}
-use Rattle.std.proofs.lemmas.List.Elements.{Contains-append_right}
+use Rattle.std.proofs.Common.{◌≡◌, ◌≤◌, ◌<◌, ℕ, List, ◌∷◌, length, refl, sym, ap, subst, arith, Contains}
+use Rattle.std.proofs.lemmas.List.Elements.{Contains-append_right, All-contains}
 use Rattle.dj_lexer.specs.Symbols.{Symbol, symbol_of, symbols_of}
 use Rattle.dj_lexer.specs.Laws.{TokensAreSpans}
 use Rattle.dj_lexer.specs.declared.token.Dialect.TheVariants as dialect
@@ -10,26 +10,18 @@ use Rattle.dj_faults.specs.LineFaults.{fault_of}
 use Rattle.dj_report.specs.Places.{IsTokenAt}
 use Rattle.dj_report.specs.Refusals.{IsWithin, IsNamed}
 use Rattle.dj_report.specs.declared.refusal.Refusal.{Refusal}
-use Rattle.dj_report.proofs.Members.{each-member}
 use Rattle.dj_front.specs.Files.{HasTokenList, IsRefusedFor, too_long, no_tokens, no_source, at_fault}
 use Rattle.dj_front.proofs.FaultSpots.{fault_at_symbol}
 use Rattle.dj_front.proofs.LexPlaces.{fault_within}
-
--- a symbol among those of tokens is the symbol of one of them
-of_map : {X Y : Type 0} (f : X → Y) (xs : List X) (y : Y) → Contains (map f xs) y → (x : X) × Contains xs x × (f x ≡ y)
-of_map f [] y (k, within, is) = absurd (omega arith)
-of_map f (x ∷ xs) y (zero, within, is) = (x, (0, omega arith, refl), is)
-of_map f (x ∷ xs) y (suc k, within, is) =
-    let later = of_map f xs y (k, omega arith, is) in
-    (later.0, (suc later.1.0, omega (arith, later.1.1), later.1.2), later.2)
+use Rattle.dj_calculus.proofs.Members.{mapped_from}
 
 module _ (spans : TokensAreSpans) (bytes : List ℕ) (tokens : List Token) (has : HasTokenList bytes tokens) where
   span : (token : Token) → Contains tokens token → (token.from < token.to) × (token.to ≤ length bytes)
-  span token among = each-member (λ s. (s.from < s.to) × (s.to ≤ length bytes)) tokens token (spans dialect.Line bytes tokens has.lexed) among
+  span token among = All-contains (λ s. (s.from < s.to) × (s.to ≤ length bytes)) tokens token (spans dialect.Line bytes tokens has.lexed) among
 
   symbol_within : (s : Symbol) → Contains (symbols_of bytes tokens) s → s.at ≤ length bytes
   symbol_within s among =
-      let found = of_map (symbol_of bytes) tokens s among in
+      let found = mapped_from (symbol_of bytes) tokens s among in
       let place : found.0.from ≡ s.at = ap (λ x. x.at) found.2 in
       omega (arith, place, span found.0 found.1)
 
@@ -41,7 +33,7 @@ module _ (spans : TokensAreSpans) (bytes : List ℕ) (tokens : List Token) (has 
 
   token_said : (s : Symbol) (place : ℕ) → Contains (symbols_of bytes tokens) s → s.at ≡ place → IsTokenAt dialect.Line bytes place s.text
   token_said s place among here =
-      let found = of_map (symbol_of bytes) tokens s among in
+      let found = mapped_from (symbol_of bytes) tokens s among in
       record {
         short = has.short;
         tokens = tokens;

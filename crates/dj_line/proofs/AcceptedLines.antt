@@ -17,6 +17,7 @@ use Rattle.dj_calculus.specs.Parts.{chain, parts_from, first_part, next_part, co
 use Rattle.dj_calculus.proofs.Members.{no_element, first_or_other, among_others, either, mapped, found_within, within_flat, kept_by}
 use Rattle.dj_calculus.proofs.PartChain.{chain_is_reached}
 use Rattle.dj_line.specs.Placing.{delta_number, numbers_of, numbers_along, is_item_of, formula_of}
+use Rattle.dj_line.proofs.Lists.{or_true}
 use Rattle.dj_calculus.proofs.Counting.{as_many, got_within, number_in}
 
 -- ---- lists
@@ -133,11 +134,7 @@ pub one_named : {X : Type 0} (f : X → Spot) (xs : List X) (x : X) → Contains
 one_named f [] x has = no_element x has
 one_named f (y ∷ xs) x has =
     either (first_or_other y x xs has) (λ same. ap (λ b. b || is_named (map f xs) (f x).text) ((bytes_eq-Decides (f y).text (f x).text).1 (ap (λ z. (f z).text) same)))
-    (λ later. or_later (bytes_eq (f y).text (f x).text) (is_named (map f xs) (f x).text) (one_named f xs x later))
-  where
-    or_later : (a b : Bool) → b ≡ true → (a || b) ≡ true
-    or_later true b e = refl
-    or_later false b e = e
+    (λ later. or_true (bytes_eq (f y).text (f x).text) (is_named (map f xs) (f x).text) (one_named f xs x later))
 
 module _ (source : Source) (accepted : IsAccepted source) where
   one_part : (p q : Part) → Contains source.parts p → Contains source.parts q → p.name.text ≡ q.name.text → p ≡ q

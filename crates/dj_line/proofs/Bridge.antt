@@ -1,10 +1,11 @@
 -- From the tables of the code to what they say of the plain line.
-use Rattle.std.proofs.Common.{◌≡◌, ℕ, ◌<◌, ◌+◌, ◌-◌, Bool, cond, not, List, [], ◌∷◌, length, map, Option, Some, None, nat_eq, slice_get, unwrap_or, Contains, All, refl, sym, ap, ◌∙◌, subst, eq-eqb, arith}
+use Rattle.std.proofs.Common.{◌≡◌, ℕ, ◌<◌, ◌+◌, ◌-◌, Bool, cond, not, List, [], ◌∷◌, length, map, Option, Some, None, nat_eq, slice_get, unwrap_or, Contains, refl, sym, ap, ◌∙◌, subst, eq-eqb, arith}
 use Rattle.std.specs.Prelude.{IfSome, ◌==◌}
-use Rattle.std.specs.List.{filter_map, flat_map, cons_option, list_any, position_or_len}
+use Rattle.std.specs.List.{filter_map, cons_option, list_any, position_or_len}
 use Rattle.std.specs.Option.{option_map}
 use Rattle.std.specs.Str.{bytes_eq}
 use Rattle.std.proofs.lemmas.Option.{slice_get-map, slice_get_within, slice_get_cases}
+use Rattle.std.proofs.lemmas.List.Elements.{All-contains}
 use Rattle.arena_walk.specs.declared.arena.NodeId.{NodeId}
 use Rattle.dj_names.specs.Texts.{AreDistinct}
 use Rattle.dj_tree.specs.Trees as plain
@@ -16,9 +17,8 @@ use Rattle.dj_tree.specs.declared.source.Source.{Source}
 use Rattle.dj_calculus.specs.Accepted.{IsAccepted}
 use Rattle.dj_calculus.specs.Contents.{items_of}
 use Rattle.dj_calculus.specs.Parts.{chain}
-use Rattle.dj_calculus.proofs.Members.{mapped, mapped_within, filtered_from, either, within_flat, no_element, among_others, in_front_or_behind}
+use Rattle.dj_calculus.proofs.Members.{mapped, mapped_within, filtered_from, either, within_flat, among_others, mapped_from, from_flat}
 use Rattle.dj_gates.proofs.Names.{number_of}
-use Rattle.dj_gates.proofs.GateFeatures.{from_one}
 use Rattle.dj_line.specs.declared.tables.Placing.{Placing}
 use Rattle.dj_line.specs.Placing.{delta_number, numbers_of, numbers_along}
 use Rattle.dj_line.specs.Numbering.{number_by, HasItems, ArePlaced, StandsAt, when_formula, IsPlaced}
@@ -41,15 +41,6 @@ same_maps f g h (x ∷ xs) same = ap (λ z. z ∷ map g (map f xs)) (same x (0, 
 pub mapped_at : {X Y : Type 0} (f : X → Y) (xs : List X) (k : ℕ) (x : X) → slice_get xs k ≡ Some x → slice_get (map f xs) k ≡ Some (f x)
 mapped_at f xs k x at = slice_get-map f xs k ∙ ap (option_map f) at
 
-from_flat : {X Y : Type 0} (f : X → List Y) (xs : List X) (y : Y) → Contains (flat_map f xs) y → (x : X) × Contains xs x × Contains (f x) y
-from_flat f [] y has = no_element y has
-from_flat f (x ∷ xs) y has =
-    either (in_front_or_behind (f x) (flat_map f xs) y has) (λ here. (x, (0, omega arith, refl), here))
-    (λ later. let it = from_flat f xs y later in (it.0, among_others x it.0 xs it.1, it.2))
-
-of_each : {X : Type 0} (P : X → Type 0) (xs : List X) (x : X) → All P xs → Contains xs x → P x
-of_each {X} P xs x all has = subst P has.2 (all has.0 x has.1)
-
 module _ (s : Source) (fine : IsWellFormed s) (distinct : AreDistinct s.names) (keys : List ℕ) (are : keys ≡ map (λ d. d.spot.name.0) s.deltas) where
   abbrev line : plain.Source
   line = plain_source s
@@ -66,8 +57,8 @@ module _ (s : Source) (fine : IsWellFormed s) (distinct : AreDistinct s.names) (
 
   pub item_known : (k : ℕ) (part : PartDecl) (item : Item) → slice_get s.parts k ≡ Some part → Contains part.items item → IsItem s.names s.formulas item
   item_known k part item at has =
-      let is_part = of_each (IsPart s.names s.formulas) s.parts part fine.parts (got_within s.parts k part at) in
-      of_each (IsItem s.names s.formulas) part.items item is_part.items has
+      let is_part = All-contains (IsPart s.names s.formulas) s.parts part fine.parts (got_within s.parts k part at) in
+      All-contains (IsItem s.names s.formulas) part.items item is_part.items has
 
   part_numbers : (k : ℕ) (part : PartDecl) → slice_get s.parts k ≡ Some part → map (number_by keys) part.items ≡ numbers_of line (plain_part s.names s.formulas part)
   part_numbers k part at =
@@ -113,7 +104,7 @@ module _ (s : Source) (fine : IsWellFormed s) (distinct : AreDistinct s.names) (
         let k = number_in ns n.0 n.1 in
         let q = mapped (plain_part s.names s.formulas) (slice_get s.parts n.0) p.0 (sym (slice_get-map (plain_part s.names s.formulas) s.parts n.0) ∙ n.2) in
         let Q : plain.Part → Type 0 = λ r. Contains r.items item in
-        let i = from_one (plain_item s.names s.formulas) q.0.items item (subst Q (sym q.2) p.2) in
+        let i = mapped_from (plain_item s.names s.formulas) q.0.items item (subst Q (sym q.2) p.2) in
         (k.0, (i.0, record { number = n.0; part = q.0; on_chain = k.1; is_part = q.1; within = i.1 }, i.2))
 
     in_line : (k : ℕ) (i : Item) → StandsAt s.parts ns k i → Contains (items_of line) (plain_item s.names s.formulas i)

@@ -10,10 +10,11 @@ use Rattle.dj_tree.specs.Trees.{Spot, Source}
 use Rattle.dj_calculus.specs.Accepted.{IsAccepted}
 use Rattle.dj_calculus.specs.Configurations.{ConfigurationFault, unknown_feature, repeated_feature, PieceFault, no_feature, stood_before, HasNoPieceFault, choosing, is_named}
 use Rattle.dj_calculus.proofs.Members.{either}
+use Rattle.dj_calculus.proofs.Counting.{earlier_or_last}
 use Rattle.dj_line.specs.Naming.{IsNamedAt}
 use Rattle.dj_line.specs.Words.{IsLeftmost}
 use Rattle.dj_line.proofs.AcceptedLines.{features_once}
-use Rattle.dj_line.proofs.Lists.{earlier, or_true, or_same, any_at, any_before, any_more, not_below, get_set_same, get_set_other, mapped_by, eq_or_not, before_or_at}
+use Rattle.dj_line.proofs.Lists.{earlier, or_true, or_same, any_at, any_before, any_more, not_below, get_set_same, get_set_other, mapped_by, eq_or_not}
 use Rattle.dj_line.proofs.NumberNamed.{one_truth}
 
 -- ---- the configuration of the first pieces
@@ -57,7 +58,7 @@ module _ (source : Source) (accepted : IsAccepted source) (pieces : List Text) w
       chooses_next off = record {
         as_many = length-set chosen n true ∙ h.as_many;
         each = λ i f is. either (eq_or_not i n) (λ same. chosen_here i f is same) (λ ne. chosen_there i f is ne);
-        clean = λ j fault low stands. either (before_or_at j k low) (λ before. h.clean j fault before stands) (λ same. clean_here j fault same stands);
+        clean = λ j fault low stands. either (earlier_or_last j k low) (λ before. h.clean j fault before stands) (λ same. clean_here j fault same stands);
       }
         where
           more : (f : Spot) → list_any (bytes_eq f.text) (take (k + 1) pieces) ≡ (list_any (bytes_eq f.text) (take k pieces) || bytes_eq f.text piece)

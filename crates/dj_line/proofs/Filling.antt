@@ -6,11 +6,12 @@ use Rattle.std.proofs.lemmas.Bool.{eqb-true}
 use Rattle.std.proofs.lemmas.List.{map-append}
 use Rattle.std.proofs.lemmas.Option.{slice_get-map}
 use Rattle.dj_calculus.proofs.Members.{either}
+use Rattle.dj_calculus.proofs.Counting.{earlier_or_last}
 use Rattle.dj_tree.specs.declared.declarations.Item.{Item}
 use Rattle.dj_line.specs.declared.tables.Placing.{Placing}
 use Rattle.dj_tree.specs.declared.declarations.PartDecl.{PartDecl}
 use Rattle.dj_line.specs.Numbering.{StandOnce, IsSetTo, HasItems, ArePlaced, StandsAt}
-use Rattle.dj_line.proofs.Lists.{earlier, get_set_same, get_set_other, eq_or_not, before_or_at, take_one_more, within_more, within_last, within_front}
+use Rattle.dj_line.proofs.Lists.{earlier, get_set_same, get_set_other, eq_or_not, take_one_more, within_more, within_last, within_front}
 use Rattle.dj_line.proofs.NumberNamed.{one_truth}
 
 pub map_more : {X Y : Type 0} (f : X → Y) (xs : List X) (k : ℕ) (x : X) → slice_get xs k ≡ Some x → map f (take (k + 1) xs) ≡ map f (take k xs) ++ f x ∷ []
@@ -67,7 +68,7 @@ module _ (number : Item → ℕ) (parts : List PartDecl) (chain : List ℕ) (k n
   placed_next old new each placed delta p got =
       either (each delta p got)
       (λ same. either (placed delta p same.0)
-      (λ none. inl (none.0, λ j item low stands is. either (before_or_at j k low) (λ before. none.1 j item before stands is) (λ here. same.1 item (in_part j item here stands) is)))
+      (λ none. inl (none.0, λ j item low stands is. either (earlier_or_last j k low) (λ before. none.1 j item before stands is) (λ here. same.1 item (in_part j item here stands) is)))
       (λ some. inr some))
       (λ set_by.
       let number_is : k ≡ p.part - 1 = omega (arith, set_by.3) in

@@ -1,7 +1,9 @@
 -- Lists by their elements, and tests of their first elements.
-use Rattle.std.proofs.Common.{◌≡◌, ◌⊎◌, inl, inr, ℕ, zero, suc, ◌<◌, ◌≤◌, ◌+◌, Bool, true, false, ◌||◌, List, [], ◌∷◌, ◌++◌, length, map, take, set, Some, slice_get, Contains, refl, sym, ap, ◌∙◌, subst, add-one, arith}
+use Rattle.std.proofs.Common.{◌≡◌, ◌⊎◌, inl, inr, ℕ, zero, suc, ◌<◌, ◌≤◌, ◌+◌, Bool, true, false, ◌||◌, List, [], ◌∷◌, ◌++◌, length, map, take, set, Some, slice_get, Contains, refl, sym, ap, ◌∙◌, subst, add-one, arith, Bor, get_or}
 use Rattle.std.specs.List.{list_any}
 use Rattle.std.proofs.lemmas.List.Elements.{Contains-append_left, Contains-append_right}
+use Rattle.std.proofs.lemmas.Option.{slice_get-map, slice_get-get_or}
+use Rattle.std.specs.Option.{option_map}
 use Rattle.dj_calculus.proofs.Members.{either, in_front_or_behind, no_element, first_or_other}
 
 -- ---- tests of the first elements
@@ -84,9 +86,6 @@ eq_or_not zero (suc m) = inr (λ e. omega (arith, e))
 eq_or_not (suc i) zero = inr (λ e. omega (arith, e))
 eq_or_not (suc i) (suc m) = either (eq_or_not i m) (λ e. inl (ap suc e)) (λ ne. inr (λ e. ne (omega (arith, e))))
 
-pub before_or_at : (j k : ℕ) → j < k + 1 → (j < k) ⊎ (j ≡ k)
-before_or_at j k low = grind arith
-
 -- ---- one element more
 
 pub take_one_more : {X : Type 0} (xs : List X) (k : ℕ) (x : X) → slice_get xs k ≡ Some x → take (k + 1) xs ≡ take k xs ++ x ∷ []
@@ -108,3 +107,8 @@ within_last {X} xs k x at = let P : List X → Type 0 = λ zs. Contains zs x in 
 
 pub within_front : {X : Type 0} (xs : List X) (k : ℕ) (x y : X) → slice_get xs k ≡ Some x → Contains (take k xs) y → Contains (take (k + 1) xs) y
 within_front {X} xs k x y at has = let P : List X → Type 0 = λ zs. Contains zs y in subst P (sym (take_one_more xs k x at)) (Contains-append_left (take k xs) (x ∷ []) y has)
+
+-- ---- texts behind references
+
+pub piece_at : (pieces : List (Bor (List ℕ))) (k : ℕ) (d : Bor (List ℕ)) → k < length pieces → slice_get (map (λ p. p.now) pieces) k ≡ Some (get_or pieces k d).now
+piece_at pieces k d low = slice_get-map (λ p. p.now) pieces k ∙ ap (option_map (λ p. p.now)) (slice_get-get_or pieces k d low)

@@ -12,6 +12,7 @@ use Rattle.dj_tree.specs.Words.{word, sign, named}
 use Rattle.dj_tree.specs.LineGrammar.{SpellsDelta, delta, SpellsPart, part, SpellsSource, source}
 use Rattle.dj_tree.specs.Spells.{Laid}
 use Rattle.dj_calculus.specs.Parts.{first_part, next_part, parts_from, chain}
+use Rattle.dj_calculus.proofs.Counting.{there_is}
 
 -- numbers that rise are no less than those of their places
 no_less : (xs : List ℕ) → IsStrictlyIncreasing xs → (k : ℕ) → k < length xs → k ≤ slice_index xs k
@@ -124,13 +125,8 @@ parts_before s laid k p at = few (λ (q : Part). q.name) k p laid.tokens laid.ar
 found_all : {X : Type 0} (xs : List X) (ns : List ℕ) → All (λ k. k < length xs) ns → length (filter_map (slice_get xs) ns) ≡ length ns
 found_all xs [] within = refl
 found_all xs (k ∷ ns) within =
-    let there = found xs k (All-head (λ i. i < length xs) k ns within) in
+    let there = there_is xs k (All-head (λ i. i < length xs) k ns within) in
     ap (λ o. length (cons_option o (filter_map (slice_get xs) ns))) there.1 ∙ ap suc (found_all xs ns (All-tail (λ i. i < length xs) k ns within))
-  where
-    found : {Y : Type 0} (ys : List Y) (n : ℕ) → n < length ys → (y : Y) × (slice_get ys n ≡ Some y)
-    found [] n low = absurd (omega arith)
-    found (y ∷ ys) zero low = (y, refl)
-    found (y ∷ ys) (suc n) low = found ys n (omega arith)
 
 steps_at_most : (n : ℕ) (parts : List Part) (o : Option Part) → length (parts_from n parts o) ≤ n
 steps_at_most zero parts o = omega arith

@@ -50,7 +50,7 @@ code_fault_of RepeatedParameter = refl
 code_fault_of ReservedClass = refl
 code_fault_of OriginalOutside = refl
 
-same_code : (f g : LineFault) → fault_of f ≡ fault_of g → f ≡ g
+pub same_code : (f g : LineFault) → fault_of f ≡ fault_of g → f ≡ g
 same_code f g e = sym (code_fault_of f) ∙ ap code_fault e ∙ code_fault_of g
 
 abbrev Answer : Source → Result Line LineError → Type 0

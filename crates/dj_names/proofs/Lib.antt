@@ -1,2 +1,3 @@
 pub mod DistinctTexts
 pub mod Lines
+pub mod Extending

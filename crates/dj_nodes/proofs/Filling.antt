@@ -5,13 +5,14 @@ use Rattle.std.proofs.lemmas.List.{map-append, take-append-drop, take_more}
 use Rattle.std.proofs.lemmas.List.Elements.{All-nil, All-push, All-append, All-weaker}
 use Rattle.std.proofs.lemmas.Option.{get_or_from_slice_get, slice_get_within}
 use Rattle.dj_names.specs.Texts.{Text, Extends}
+use Rattle.dj_names.proofs.Extending.{extends_transitive}
 use Rattle.arena_walk.specs.Tree.{Tree, Trees, branch, no_trees, tree_and, trees_of, root_of, size, size_each, nodes, nodes_each, EachNode, EachNodeOf}
 use Rattle.arena_walk.specs.Forest.{trees, tree_at, HasArity}
 use Rattle.arena_walk.proofs.TreeLemmas.{drop_at_place, size_each-append, EachNode-root, EachNodeOf-split}
 use Rattle.arena_walk.proofs.ForestLemmas.{size-trees, have_own}
 use Rattle.dj_nodes.specs.PostOrder.{finished, IsPostOrder}
 use Rattle.dj_nodes.proofs.Orders.{finished_enough, finished_between, count_behind, tree_of}
-use Rattle.dj_nodes.proofs.Growing.{at_number, extends_transitive}
+use Rattle.dj_nodes.proofs.Growing.{at_number}
 
 -- The marks that are done have their nodes behind the old ones. `key` is what names make of a node, and `view` of a mark.
 pub record Filled {N M K : Type 0} (key : List Text → N → K) (Known : List Text → N → Type 0) (view : M → K) (done : List M) (names later : List Text) (old new : List N) (root : ℕ) : Type 0 where

@@ -8,7 +8,7 @@
 use Rattle.std.proofs.Common.{◌≡◌, ℕ, suc, ◌+◌, List, [], ◌∷◌, ◌++◌, length, map, refl, sym, ap, ap₂, ◌∙◌, append_assoc, arith}
 use Rattle.std.specs.Prelude.{slice_get, unwrap_or}
 use Rattle.std.proofs.lemmas.List.{append-nil, map-append, length-map}
-use Rattle.arena_walk.specs.Tree.{Tree, Trees, branch, no_trees, tree_and, trees_of, list_of, over, size, nodes, nodes_each, EachNode, EachNodeOf, fold_each}
+use Rattle.arena_walk.specs.Tree.{Tree, Trees, branch, no_trees, tree_and, trees_of, list_of, size, nodes, nodes_each, EachNode, EachNodeOf, fold_each}
 use Rattle.arena_walk.specs.Forest.{HasArity}
 use Rattle.arena_walk.proofs.TreeLemmas.{length-nodes}
 use Rattle.arena_walk.proofs.Visitors.{trees-nodes, list_of-trees_of}
@@ -16,6 +16,7 @@ use Rattle.dj_lexer.specs.Symbols.{Symbol}
 use Rattle.dj_lexer.specs.declared.token.Dialect.{Dialect}
 use Rattle.dj_tree.specs.Trees.{Formula, FormulaForm, always, Expr, ExprForm}
 use Rattle.dj_tree.specs.Plain.{in_form}
+use Rattle.dj_tree.proofs.InForm.{renamed, nodes_in_form}
 use Rattle.dj_formula_reader.specs.declared.machine.FormulaMark.{FormulaMark}
 use Rattle.dj_formula_reader.specs.declared.machine.FormulaMark.TheVariants as formula
 use Rattle.dj_formula_reader.specs.Laws.{parts, formula_of, SpellsNodes}
@@ -31,21 +32,9 @@ use Rattle.dj_nodes.proofs.Orders.{finished_more, tree_of, order_of_nodes}
 
 -- ---- trees in another form
 
--- what the fold of `in_form` makes of a node
-abbrev renamed : {N F : Type 0} → (N → F) → N → List (Tree F) → Tree F
-renamed form n kids = over (form n) kids
-
 length_renamed : {N F : Type 0} (form : N → F) (ks : Trees N) → length (fold_each (renamed form) ks) ≡ length (list_of ks)
 length_renamed form no_trees = refl
 length_renamed form (tree_and t ks) = ap suc (length_renamed form ks)
-
-mutual
-  pub nodes_in_form : {N F : Type 0} (form : N → F) (t : Tree N) → nodes (in_form form t) ≡ map form (nodes t)
-  nodes_in_form form (branch n ks) = ap (λ ns. ns ++ form n ∷ []) (nodes_renamed form ks) ∙ sym (map-append form (nodes_each ks) (n ∷ []))
-
-  nodes_renamed : {N F : Type 0} (form : N → F) (ks : Trees N) → nodes_each (trees_of (fold_each (renamed form) ks)) ≡ map form (nodes_each ks)
-  nodes_renamed form no_trees = refl
-  nodes_renamed form (tree_and t ks) = ap₂ (λ x y. x ++ y) (nodes_in_form form t) (nodes_renamed form ks) ∙ sym (map-append form (nodes t) (nodes_each ks))
 
 module _ {N F : Type 0} (form : N → F) (arity : N → ℕ) (width : F → ℕ) (same : (n : N) → width (form n) ≡ arity n) where
   mutual

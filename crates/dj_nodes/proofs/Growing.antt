@@ -5,7 +5,7 @@
 -- | a name that was known is known later, and stands for the same | known_later, kept_spot |
 -- | the same of nodes, and of all nodes of an arena | formula_node_later, expr_node_later, formula_nodes_later, expr_nodes_later |
 -- | a formula or an expression at a number stays | kept_formula, kept_expr |
--- | growing in no step, and in two | extends_reflexive, extends_transitive, keeps_reflexive, keeps_transitive |
+-- | nodes that grow in no step, and in two | keeps_reflexive, keeps_transitive |
 use Rattle.std.proofs.Common.{◌≡◌, ℕ, ◌+◌, ◌<◌, List, [], ◌∷◌, ◌++◌, length, take, slice_get, Some, refl, sym, ap, ap₂, ◌∙◌, subst, append_assoc, length-append, arith}
 use Rattle.std.specs.Prelude.{unwrap_or, All}
 use Rattle.std.specs.Option.{option_map}
@@ -28,12 +28,6 @@ use Rattle.dj_tree.specs.declared.formula.FormulaNode.TheVariants as formula
 use Rattle.dj_tree.specs.declared.expression.ExprNode.{ExprNode}
 use Rattle.dj_tree.specs.declared.expression.ExprNode.TheVariants as expr
 use Rattle.dj_nodes.specs.PostOrder.{KeepsNodes}
-
-pub extends_reflexive : (names : List Text) → Extends names names
-extends_reflexive names = ([], sym (append-nil names))
-
-pub extends_transitive : (names between later : List Text) → Extends names between → Extends between later → Extends names later
-extends_transitive names between later e h = (e.0 ++ h.0, h.1 ∙ ap (λ xs. xs ++ h.0) e.1 ∙ append_assoc names e.0 h.0)
 
 pub keeps_reflexive : {N : Type 0} (ns : List N) → KeepsNodes ns ns
 keeps_reflexive ns = ([], sym (append-nil ns))

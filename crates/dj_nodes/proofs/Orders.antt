@@ -1,8 +1,8 @@
 -- Nodes in post-order make one tree, and the nodes of a tree are in post-order.
-use Rattle.std.proofs.Common.{◌≡◌, ℕ, ◌+◌, ◌-◌, ◌≤◌, Bool, true, false, cond, List, [], ◌∷◌, ◌++◌, length, map, take, drop, fold, Some, None, refl, sym, ap, ◌∙◌, subst, append_assoc, length-append, length-take, length-drop, arith}
+use Rattle.std.proofs.Common.{◌≡◌, ℕ, ◌+◌, ◌-◌, ◌≤◌, List, [], ◌∷◌, ◌++◌, length, map, take, drop, fold, Some, None, refl, sym, ap, ◌∙◌, subst, append_assoc, length-append, length-take, length-drop, arith}
 use Rattle.std.specs.Prelude.{nat_le}
 use Rattle.std.proofs.lemmas.List.{append-nil, take-append-drop, map-append}
-use Rattle.std.proofs.lemmas.Bool.{leb-true, leb-false}
+use Rattle.std.proofs.lemmas.Bool.{leb-true, leb-false, cond_both}
 use Rattle.arena_walk.specs.Tree.{Tree, Trees, branch, no_trees, tree_and, trees_of, list_of, over, size, nodes, nodes_each, EachNode, EachNodeOf}
 use Rattle.arena_walk.specs.Forest.{grow, trees, HasArity}
 use Rattle.arena_walk.proofs.TreeLemmas.{list_of-trees_of, nodes_each-append, EachNodeOf-append, EachNodeOf-split}
@@ -11,20 +11,16 @@ use Rattle.dj_nodes.specs.PostOrder.{finished, IsPostOrder}
 
 -- ---- the count
 
-by_test : {M : Type 0} (P : M → Type 0) (b : Bool) (m n : M) → (b ≡ true → P m) → (b ≡ false → P n) → P (cond b m n)
-by_test P true m n f g = f refl
-by_test P false m n f g = g refl
-
 -- a node that finds enough trees, and what is finished behind the others
 pub finished_more : (count arity : ℕ) (rest : List ℕ) → arity ≤ count → finished count (arity ∷ rest) ≡ finished (count - arity + 1) rest
 finished_more count arity rest h =
-    by_test (λ o. o ≡ finished (count - arity + 1) rest) (nat_le arity count) (finished (count - arity + 1) rest) None (λ _. refl)
+    cond_both (nat_le arity count) (finished (count - arity + 1) rest) None (λ o. o ≡ finished (count - arity + 1) rest) (λ _. refl)
     (λ e. let less = leb-false arity count e in absurd (omega arith))
 
 -- where a tree is finished in the end, each node finds enough
 pub finished_enough : (count arity k : ℕ) (rest : List ℕ) → finished count (arity ∷ rest) ≡ Some k → (arity ≤ count) × (finished (count - arity + 1) rest ≡ Some k)
 finished_enough count arity k rest =
-    by_test (λ o. o ≡ Some k → (arity ≤ count) × (finished (count - arity + 1) rest ≡ Some k)) (nat_le arity count) (finished (count - arity + 1) rest) None
+    cond_both (nat_le arity count) (finished (count - arity + 1) rest) None (λ o. o ≡ Some k → (arity ≤ count) × (finished (count - arity + 1) rest ≡ Some k))
     (λ t e. (leb-true arity count t, e)) (λ _ e. absurd (cc))
 
 -- what is finished between two parts of a list

@@ -9,6 +9,7 @@ use Rattle.dj_parser.specs.Growth.{CanSay, Grew}
 use Rattle.dj_parser.specs.Resolved.{Stands, StandEach}
 use Rattle.dj_parser.specs.declared.tables.Tables.{Tables}
 use Rattle.dj_parser.proofs.Growing.{can_first, can_then, grew_then}
+use Rattle.arena_walk.proofs.WalkLemmas.{AllZip-more}
 
 pub said_append : {A : Type 0} (says : A → List Text) (xs ys : List A) → said_each says (xs ++ ys) ≡ said_each says xs ++ said_each says ys
 said_append says [] ys = refl
@@ -18,15 +19,6 @@ said_append says (x ∷ xs) ys = ap (λ rest. says x ++ rest) (said_append says 
 pub said_map : {A X : Type 0} (says : X → List Text) (view : A → X) (xs : List A) → said_each (λ a. says (view a)) xs ≡ said_each says (map view xs)
 said_map says view [] = refl
 said_map says view (x ∷ xs) = ap (λ rest. says (view x) ++ rest) (said_map says view xs)
-
-append_nil : (xs : List Text) → xs ++ [] ≡ xs
-append_nil xs = append-nil xs
-
-zip_push : {A B : Type 0} (R : A → B → Type 0) (xs : List A) (ys : List B) (x : A) (y : B) → AllZip R xs ys → R x y → AllZip R (xs ++ x ∷ []) (ys ++ y ∷ [])
-zip_push R [] [] x y zip last = (last, tt)
-zip_push R [] (b ∷ ys) x y zip last = absurd zip
-zip_push R (a ∷ xs) [] x y zip last = absurd zip
-zip_push R (a ∷ xs) (b ∷ ys) x y zip last = (zip.0, zip_push R xs ys x y zip.1 last)
 
 module _ {A : Type 0} (raws : List A) (i : ℕ) (x : A) (below : i < length raws) (is : x ≡ get_or raws i x) where
   pub one_more : take (i + 1) raws ≡ take i raws ++ x ∷ []
@@ -47,11 +39,11 @@ module _ {A : Type 0} (raws : List A) (i : ℕ) (x : A) (below : i < length raws
   grew_next {old = old} {now = now} {new = new} says grew more =
       let parts : said_each says (take (i + 1) raws) ≡ said_each says (take i raws) ++ (says x ++ []) =
       ap (said_each says) one_more ∙ said_append says (take i raws) (x ∷ []) in
-      let last : says x ++ [] ≡ says x = append_nil (says x) in
+      let last : says x ++ [] ≡ says x = append-nil (says x) in
       subst (λ texts. Grew old new texts) (sym (parts ∙ ap (λ rest. said_each says (take i raws) ++ rest) last)) (grew_then grew more)
 
   pub zip_next : {B : Type 0} (R : A → B → Type 0) (outs : List B) (y : B) → AllZip R (take i raws) outs → R x y → AllZip R (take (i + 1) raws) (outs ++ y ∷ [])
-  zip_next R outs y zip last = rw one_more (zip_push R (take i raws) outs x y zip last)
+  zip_next R outs y zip last = rw one_more (AllZip-more R (take i raws) outs x y zip last)
 
 pub grew_all : {A : Type 0} {old new : Tables} (raws : List A) (i : ℕ) (says : A → List Text) → length raws ≤ i → Grew old new (said_each says (take i raws)) → Grew old new (said_each says raws)
 grew_all {old = old} {new = new} raws i says end grew = subst (λ xs. Grew old new (said_each says xs)) (take_all i raws end) grew

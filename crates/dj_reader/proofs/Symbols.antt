@@ -1,5 +1,5 @@
 -- What the tests on a symbol say.
-use Rattle.std.proofs.Common.{◌≡◌, ℕ, Bool, true, false, refl, sym, ap}
+use Rattle.std.proofs.Common.{◌≡◌, ℕ, Bool, true, false, refl, sym, ap, ◌∙◌}
 use Rattle.std.specs.Prelude.{◌&&◌, not}
 use Rattle.std.specs.Str.{bytes_eq}
 use Rattle.std.proofs.lemmas.Slice.Eq.{bytes_eq-Decides}
@@ -51,3 +51,11 @@ is_name x i = rw i refl
 -- a word is no sign
 pub word_no_sign : (s : Symbol) (text other : Text) → is_the_word text s ≡ true → is_the_sign other s ≡ false
 word_no_sign s text other h = rw (word_is text s h) refl
+
+-- a word that is a name is none of the reserved ones
+pub not_word : (x : Spot) → IsName x → (text : Text) → is_reserved text ≡ true → bytes_eq x.text text ≡ false
+not_word x i text r = by_test (bytes_eq x.text text) refl
+  where
+    by_test : (b : Bool) → bytes_eq x.text text ≡ b → b ≡ false
+    by_test true h = let same : x.text ≡ text = (bytes_eq-Decides x.text text).0 h in let clash : true ≡ false = sym r ∙ ap is_reserved (sym same) ∙ i in absurd cc
+    by_test false h = refl

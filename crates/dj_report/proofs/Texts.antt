@@ -1,5 +1,5 @@
 -- What the pieces of a text make of it.
-use Rattle.std.proofs.Common.{◌≡◌, ℕ, ◌+◌, ◌++◌, true, false, List, [], ◌∷◌, subst, sym, ap, ◌∙◌, codes, Result, Ok, Err, IfOk}
+use Rattle.std.proofs.Common.{◌≡◌, ℕ, ◌+◌, ◌++◌, true, false, List, [], ◌∷◌, subst, sym, ap, ◌∙◌, codes}
 use Rattle.std.specs.Fmt.{decimal}
 use Rattle.dj_names.specs.Texts.{Text}
 use Rattle.dj_names.specs.Place.{line_ends_before, IsColumn}
@@ -10,10 +10,6 @@ use Rattle.dj_report.specs.Join.{joined, line_end}
 use Rattle.dj_report.specs.Places.{IsPlaceText, line_and_column, IsTokenAt}
 use Rattle.dj_report.specs.Refusals.{lex_place, lex_words, line_words, takes_name, refused, refused_name, IsRefusalText, too_long, no_tokens, no_source, at_fault, at_fault_with}
 use Rattle.dj_report.specs.declared.refusal.Refusal.TheVariants.{TooLong, Lex, Syntax, Line}
-
-pub if_ok_map : {T E : Type 0} (r : Result T E) (P Q : T → Type 0) → ((x : T) → P x → Q x) → IfOk r P → IfOk r Q
-if_ok_map (Ok x) P Q change holds = change x holds
-if_ok_map (Err e) P Q change holds = tt
 
 pub place_of_parts : (bytes : List ℕ) (at line column : ℕ) (text : Text) → line ≡ line_ends_before bytes at + 1 → IsColumn bytes at column
     → text ≡ decimal line ++ (codes ":" ++ decimal column) → IsPlaceText bytes at text

@@ -1,9 +1,9 @@
 -- Classes and fields over a list of texts that grows.
-use Rattle.std.proofs.Common.{◌≡◌, ◌<◌, ◌≤◌, ℕ, T, List, [], ◌∷◌, ◌++◌, map, length, Some, slice_get, refl, sym, ap, ◌∙◌, subst, arith}
+use Rattle.std.proofs.Common.{◌≡◌, ◌<◌, ◌≤◌, ℕ, T, List, [], ◌∷◌, map, length, Some, slice_get, refl, sym, ap, ◌∙◌, subst, arith}
 use Rattle.std.specs.List.{All, AllByRecursion}
 use Rattle.std.specs.FinMap as map
 use Rattle.std.specs.FinMap.{from_sorted, is_sorted, entries, entries-from_sorted, len-entries, empty_of_len}
-use Rattle.std.proofs.lemmas.List.{get_or_append_left, length-append, append_assoc, append-nil}
+use Rattle.std.proofs.lemmas.List.{get_or_append_left, length-append}
 use Rattle.std.proofs.lemmas.Option.{slice_get_within, get_or_from_slice_get}
 use Rattle.std.proofs.lemmas.List.Elements.{recursion_from_All}
 use Rattle.dj_names.specs.Texts.{Text, Extends}
@@ -21,9 +21,6 @@ map-same P f h same (x ∷ xs) all = rw (same x all.0, map-same P f h same xs al
 -- the map of no entries
 pub from_sorted-nil : {X : Type 0} → from_sorted {R = text_cmp} (let es : List (Text × X) = [] in es) ≡ map.empty
 from_sorted-nil {X} = empty_of_len (from_sorted {X = X} {R = text_cmp} []) (len-entries (from_sorted {X = X} {R = text_cmp} []) ∙ ap length (entries-from_sorted {X = X} text_cmp [] tt))
-
-pub Extends-trans : (first second third : List Text) → Extends first second → Extends second third → Extends first third
-Extends-trans first second third a b = (a.0 ++ b.0, b.1 ∙ ap (λ l. l ++ b.0) a.1 ∙ append_assoc first a.0 b.0)
 
 module _ (before after : List Text) (grown : Extends before after) where
   pub length-grown : length before ≤ length after
@@ -87,9 +84,6 @@ module _ (before after : List Text) (grown : Extends before after) where
 
   pub known-name : (name : ℕ) (text : Text) → slice_get before name ≡ Some text → name < length after
   known-name name text named_so = omega (arith, length-grown, slice_get_within before name text named_so)
-
-pub Extends-refl : (texts : List Text) → Extends texts texts
-Extends-refl texts = ([], sym (append-nil texts))
 
 -- a class without fields
 pub is_class : (texts : List Text) (class : Entry ClassBody) → class.name.0 < length texts → class.body.parent.0 < length texts → class.body.fields.items ≡ [] → IsClass texts class

@@ -1,6 +1,6 @@
 -- Ways along links in both directions: what a write keeps of them, and how they are cut and joined.
 use Rattle.std.proofs.Common.{◌≡◌, ◌≢◌, ℕ, ◌<◌, List, [], ◌∷◌, ◌++◌, length, get_or, set, refl, sym, ap, ◌∙◌, subst}
-use Rattle.std.proofs.lemmas.List.{length-set, get_or-set_same, get_or-set_other}
+use Rattle.std.proofs.lemmas.List.{length-set, get_or-set_same, get_or-set_other, append-nil}
 use Rattle.sat_links.specs.Rings.{following, Leads}
 use Rattle.sat_links.proofs.ApartLemmas.{Misses, Apart, Misses-parts, Apart-left, Apart-middle}
 
@@ -76,12 +76,8 @@ pub cut : (previous next : List ℕ) (xs ys : List ℕ) (v : ℕ)
 cut previous next xs [] v way apart within here =
     let parts = Leads-parts previous next 0 xs v [] 0 way in
     let misses = Misses-parts 0 xs (v ∷ []) apart.0 in
-    subst (λ l. Leads (set previous 0 (last_or 0 xs)) (set next (last_or 0 xs) 0) 0 l 0) (sym (append_none xs))
+    subst (λ l. Leads (set previous 0 (last_or 0 xs)) (set next (last_or 0 xs) 0) 0 l 0) (sym (append-nil xs))
     (Leads-turn previous next 0 xs v 0 parts.0 (misses.0, Apart-left xs (v ∷ []) apart.1) misses.0 within here)
-  where
-    append_none : (l : List ℕ) → l ++ [] ≡ l
-    append_none [] = refl
-    append_none (y ∷ l) = ap (λ r. y ∷ r) (append_none l)
 cut previous next xs (y ∷ ys) v way apart within here =
     let parts = Leads-parts previous next 0 xs v (y ∷ ys) 0 way in
     let misses = Misses-parts 0 xs (v ∷ y ∷ ys) apart.0 in

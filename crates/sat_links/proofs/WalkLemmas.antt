@@ -2,7 +2,7 @@
 use Rattle.std.proofs.Common.{◌≡◌, ◌≢◌, ℕ, zero, suc, ◌<◌, ◌≤◌, Bool, false, not, cond, eqb, List, [], ◌∷◌, ◌++◌, length, get_or, All, Contains, Option, None, Some, IsSome, refl, sym, ap, ◌∙◌, subst, arith}
 use Rattle.std.specs.Option.{is_some}
 use Rattle.std.proofs.lemmas.Bool.{eq-eqb, ne_eqb}
-use Rattle.std.proofs.lemmas.List.{append_assoc, get_or_at, get_or_read, length-append}
+use Rattle.std.proofs.lemmas.List.{append_assoc, get_or_at, get_or_read, length-append, append-nil}
 use Rattle.std.proofs.lemmas.List.Elements.{All-nil, All-cons, All-contains}
 use Rattle.sat_links.specs.Queues.{IsQueue, value_of, HasValue, IsLastFree}
 use Rattle.sat_links.specs.Rings.{ring_of, Leads, IsRing}
@@ -44,14 +44,10 @@ seen_none values previous next at ring at_is =
     record {
       front = ring_of next;
       back = [];
-      place = sym (append_none (ring_of next));
+      place = sym (append-nil (ring_of next));
       at_last = get_or_read previous 0 at within at_is 0 ∙ previous_is previous next 0 (ring_of next) 0 ring.ring;
       valued = All-nil (HasValue values);
     }
-  where
-    append_none : (l : List ℕ) → l ++ [] ≡ l
-    append_none [] = refl
-    append_none (y ∷ l) = ap (λ r. y ∷ r) (append_none l)
 
 ends : (x : ℕ) (xs : List ℕ) → (before : List ℕ) × (x ∷ xs ≡ before ++ last_or x xs ∷ [])
 ends x [] = ([], refl)

@@ -1,4 +1,5 @@
 use Rattle.std.proofs.Common.{sym, subst}
+use Rattle.std.proofs.lemmas.Result.{IfOk-weaker}
 use Rattle.dj_line.specs.Lines.{plain_line}
 use Rattle.dj_line.specs.Words.{config_error}
 use Rattle.dj_line.specs.declared.errors.ConfigError.TheVariants as config
@@ -6,7 +7,7 @@ use Rattle.dj_report.specs.WordTexts.{IsConfigurationRefusal}
 use Rattle.deltaj.specs.Answers.{LineAnswer, configured, configuration_refused}
 use Rattle.deltaj.specs.Outcomes.{answer_of, word_of}
 use Rattle.deltaj.proofs.WordAnswers.{configuration_fault_of, configuration_sayable}
-use Rattle.deltaj.proofs.Refusing.{if_ok_map, told_by}
+use Rattle.deltaj.proofs.Refusing.{told_by}
 use Rattle.deltaj.proofs.generation.line_outcome.Goals as goal
 
 pub refused_configuration-requires : goal.refused_configuration-requires
@@ -25,4 +26,4 @@ returns-in-Err c =
 
 pub returns : goal.returns
 returns c =
-    if_ok_map c.order_outcome.result _ _ (λ outcome is. configured c.in-Ok.chosen.chosen.items (answer_of outcome) c.in-Ok.ensures.answer is) c.order_outcome.ensures
+    IfOk-weaker c.order_outcome.result _ _ (λ outcome is. configured c.in-Ok.chosen.chosen.items (answer_of outcome) c.in-Ok.ensures.answer is) c.order_outcome.ensures

@@ -1,11 +1,12 @@
 use Rattle.std.proofs.Common.{refl, sym, subst}
+use Rattle.std.proofs.lemmas.Result.{IfOk-weaker}
 use Rattle.dj_line.specs.Lines.{plain_line}
 use Rattle.dj_line.specs.OrderWords.{order_error}
 use Rattle.dj_line.specs.declared.errors.OrderError.TheVariants as order
 use Rattle.dj_report.specs.WordTexts.{IsOrderRefusal}
 use Rattle.deltaj.specs.Answers.{OrderAnswer, in_order, order_refused}
 use Rattle.deltaj.proofs.WordAnswers.{order_fault_of, order_sayable}
-use Rattle.deltaj.proofs.Refusing.{if_ok_map, told_by}
+use Rattle.deltaj.proofs.Refusing.{told_by}
 use Rattle.deltaj.proofs.generation.word_outcome.Goals as goal
 
 pub refused_order-requires : goal.refused_order-requires
@@ -25,6 +26,6 @@ returns-in-Err c =
 pub returns : goal.returns
 returns c =
     let source = plain_line c.args.line.now in
-    if_ok_map c.product_outcome.result _ _ (λ outcome is.
+    IfOk-weaker c.product_outcome.result _ _ (λ outcome is.
     let stands = (c.in-Ok.ensures.given (λ e. cc)).0 refl in
     subst (OrderAnswer source c.args.chosen.now.chosen.items _) (sym is) (in_order c.args.word.now stands.0 stands.1)) c.product_outcome.ensures

@@ -1,6 +1,6 @@
 use Rattle.std.proofs.Common.{◌≡◌, ◌≤◌, ◌<◌, ◌∙◌, List, length, subst, sym, Contains}
+use Rattle.std.proofs.lemmas.List.Elements.{All-contains}
 use Rattle.dj_lexer.specs.declared.token.Token.{Token}
-use Rattle.dj_report.proofs.Members.{each-member}
 use Rattle.dj_report.proofs.token.token_at.Goals as goal
 
 pub token_from-token-requires : goal.token_from-token-requires
@@ -17,7 +17,7 @@ text_of-requires c =
     let listed = c.in_ok-tokens.tokens.items in
     let token = c.token_from-token.result in
     let P : List Token → Type 0 = λ tokens. Contains tokens token in
-    each-member (λ s. (s.from < s.to) × (s.to ≤ length c.args.bytes.now)) listed token c.in_ok-tokens.ensures.spans
+    All-contains (λ s. (s.from < s.to) × (s.to ≤ length c.args.bytes.now)) listed token c.in_ok-tokens.ensures.spans
     (subst P c.deref.ensures.value c.token_from-token.ensures.among)
 
 pub returns : goal.returns

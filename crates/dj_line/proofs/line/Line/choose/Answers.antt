@@ -1,13 +1,10 @@
-use Rattle.std.proofs.Common.{rules, ◌≡◌, ◌<◌, ℕ, Some, Bor, List, length, map, slice_get, get_or, refl, ap, ◌∙◌, arith}
-use Rattle.std.proofs.lemmas.Option.{slice_get-get_or, slice_get_read, slice_get-map}
-use Rattle.std.specs.Option.{option_map}
+use Rattle.std.proofs.Common.{rules, ◌<◌, ℕ, Some, Bor, List, length, map, refl, ap, ◌∙◌, arith}
+use Rattle.std.proofs.lemmas.Option.{slice_get_read}
 use Rattle.std.proofs.lemmas.List.{length-map}
 use Rattle.dj_line.specs.Lines.{plain_line}
 use Rattle.dj_line.proofs.Choosing.{unknown_piece, repeated_piece, feature_within, chooses_next, chooses_all}
 use Rattle.dj_line.proofs.line.Line.choose.Goals as goal
-
-piece_at : (pieces : List (Bor (List ℕ))) (k : ℕ) (d : Bor (List ℕ)) → k < length pieces → slice_get (map (λ p. p.now) pieces) k ≡ Some (get_or pieces k d).now
-piece_at pieces k d low = slice_get-map (λ p. p.now) pieces k ∙ ap (option_map (λ p. p.now)) (slice_get-get_or pieces k d low)
+use Rattle.dj_line.proofs.Lists.{piece_at}
 
 pub returns-in_default : goal.returns-in_default
 returns-in_default c =

@@ -1,12 +1,8 @@
-use Rattle.std.proofs.Common.{◌≡◌, ◌∙◌, ◌<◌, ℕ, Bor, List, Some, length, map, slice_get, get_or, sym, ap}
-use Rattle.std.specs.Option.{option_map}
-use Rattle.std.proofs.lemmas.Option.{slice_get-get_or, slice_get-map}
+use Rattle.std.proofs.Common.{◌∙◌, map, sym}
 use Rattle.dj_line.specs.Lines.{plain_line}
 use Rattle.dj_line.proofs.OrderWords.{unknown_here, named_next, pushed}
 use Rattle.dj_line.proofs.line.Line.deltas_named.Goals as goal
-
-piece_at : (pieces : List (Bor (List ℕ))) (k : ℕ) (d : Bor (List ℕ)) → k < length pieces → slice_get (map (λ p. p.now) pieces) k ≡ Some (get_or pieces k d).now
-piece_at pieces k d low = slice_get-map (λ p. p.now) pieces k ∙ ap (option_map (λ p. p.now)) (slice_get-get_or pieces k d low)
+use Rattle.dj_line.proofs.Lists.{piece_at}
 
 pub returns-in_default : goal.returns-in_default
 returns-in_default c =

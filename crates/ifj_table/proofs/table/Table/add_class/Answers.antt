@@ -2,27 +2,28 @@ use Rattle.std.proofs.Common.{◌∙◌, sym, ap, subst, arith}
 use Rattle.std.specs.FinMap as map
 use Rattle.std.specs.List.{insert}
 use Rattle.dj_names.specs.Texts.{Extends}
+use Rattle.dj_names.proofs.Extending.{extends_reflexive, extends_transitive}
 use Rattle.ifj_table.specs.declared.entry.Entry.{Entry}
 use Rattle.ifj_table.specs.declared.entry.ClassBody.{ClassBody}
 use Rattle.ifj_table.specs.ClassTable.{ClassTable}
 use Rattle.ifj_table.specs.Held.{AreClasses, place_among}
 use Rattle.ifj_table.proofs.Entries.{place_among-le}
-use Rattle.ifj_table.proofs.Classes.{Extends-trans, Extends-refl, is_class, classes-grown, text_of-name, known-name}
+use Rattle.ifj_table.proofs.Classes.{is_class, classes-grown, text_of-name, known-name}
 use Rattle.ifj_table.proofs.Changes.{on_err, classes-same, places-same, class_added, AddsClass, classes_map, places_map}
 use Rattle.ifj_table.proofs.table.Table.add_class.Goals as goal
 
 pub invariant_of-self-in_err-parent : goal.invariant_of-self-in_err-parent
 invariant_of-self-in_err-parent c =
-    classes-grown c.self.inside.names c.add-2.new.self (Extends-trans _ _ _ c.in_ok-name.ensures.numbers c.in_err-parent.ensures.numbers) c.self.inside.classes.items c.self.invariant
+    classes-grown c.self.inside.names c.add-2.new.self (extends_transitive _ _ _ c.in_ok-name.ensures.numbers c.in_err-parent.ensures.numbers) c.self.inside.classes.items c.self.invariant
 
 pub returns-in_err-parent-clause-err : goal.returns-in_err-parent-clause-err
 returns-in_err-parent-clause-err c =
-    let grown = Extends-trans _ _ _ c.in_ok-name.ensures.numbers c.in_err-parent.ensures.numbers in
+    let grown = extends_transitive _ _ _ c.in_ok-name.ensures.numbers c.in_err-parent.ensures.numbers in
     on_err _ _ (classes-same c.self.inside.names c.add-2.new.self grown c.self.inside.classes.items c.self.invariant ∙ ap (λ (t : ClassTable). t.classes) c.self.view_is)
 
 pub returns-in_err-parent-clause-err_places : goal.returns-in_err-parent-clause-err_places
 returns-in_err-parent-clause-err_places c =
-    let grown = Extends-trans _ _ _ c.in_ok-name.ensures.numbers c.in_err-parent.ensures.numbers in
+    let grown = extends_transitive _ _ _ c.in_ok-name.ensures.numbers c.in_err-parent.ensures.numbers in
     on_err _ _ (places-same c.self.inside.names c.add-2.new.self grown c.self.inside.classes.items c.self.invariant ∙ ap (λ (t : ClassTable). t.places) c.self.view_is)
 
 pub insert-requires : goal.insert-requires
@@ -32,12 +33,12 @@ insert-requires c =
 
 pub invariant_of-self-in_err-insert : goal.invariant_of-self-in_err-insert
 invariant_of-self-in_err-insert c =
-    let grown = Extends-trans _ _ _ c.in_ok-name.ensures.numbers c.in_ok-parent.ensures.numbers in
+    let grown = extends_transitive _ _ _ c.in_ok-name.ensures.numbers c.in_ok-parent.ensures.numbers in
     subst (AreClasses c.add-2.new.self) (sym c.in_err-insert.ensures.items) (classes-grown c.self.inside.names c.add-2.new.self grown c.self.inside.classes.items c.self.invariant)
 
 pub returns-in_err-insert-clause-err : goal.returns-in_err-insert-clause-err
 returns-in_err-insert-clause-err c =
-    let grown = Extends-trans _ _ _ c.in_ok-name.ensures.numbers c.in_ok-parent.ensures.numbers in
+    let grown = extends_transitive _ _ _ c.in_ok-name.ensures.numbers c.in_ok-parent.ensures.numbers in
     on_err _ _
     (
     ap (classes_map c.add-2.new.self) c.in_err-insert.ensures.items
@@ -47,7 +48,7 @@ returns-in_err-insert-clause-err c =
 
 pub returns-in_err-insert-clause-err_places : goal.returns-in_err-insert-clause-err_places
 returns-in_err-insert-clause-err_places c =
-    let grown = Extends-trans _ _ _ c.in_ok-name.ensures.numbers c.in_ok-parent.ensures.numbers in
+    let grown = extends_transitive _ _ _ c.in_ok-name.ensures.numbers c.in_ok-parent.ensures.numbers in
     on_err _ _
     (
     ap (places_map c.add-2.new.self) c.in_err-insert.ensures.items
@@ -58,8 +59,8 @@ returns-in_err-insert-clause-err_places c =
 adds : (c : goal.In_ok-insert) → AddsClass c.self.inside.names c.add-2.new.self c.self.inside.classes.items c.insert.new.self.items c.args.class.now c.args.parent.now c.args.at c.args.parent_at
 adds c =
     let last : Extends c.add.new.self c.add-2.new.self = c.in_ok-parent.ensures.numbers in
-    let grown = Extends-trans _ _ _ c.in_ok-name.ensures.numbers last in
-    let same = Extends-refl c.add-2.new.self in
+    let grown = extends_transitive _ _ _ c.in_ok-name.ensures.numbers last in
+    let same = extends_reflexive c.add-2.new.self in
     let class : Entry ClassBody = record { name = c.in_ok-name.name; at = c.args.at; body = record { parent = c.in_ok-parent.parent; parent_at = c.args.parent_at; fields = c.new.result } } in
     let at = c.position-index.ensures ∙ ap (λ es. place_among c.add-2.new.self es c.args.class.now) c.deref.ensures.value in
     let known_name = known-name c.add.new.self c.add-2.new.self last c.in_ok-name.name.0 c.args.class.now c.in_ok-name.ensures.name in

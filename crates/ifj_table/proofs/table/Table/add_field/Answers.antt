@@ -6,29 +6,30 @@ use Rattle.ifj_table.specs.declared.entry.FieldBody.{FieldBody}
 use Rattle.ifj_table.specs.ClassTable.{ClassTable}
 use Rattle.ifj_table.specs.Held.{IsField, AreKnown, place_among}
 use Rattle.ifj_table.proofs.Entries.{place_among-le}
-use Rattle.ifj_table.proofs.Classes.{Extends-trans, Extends-refl, classes-grown, text_of-name, known-name}
+use Rattle.ifj_table.proofs.Classes.{classes-grown, text_of-name, known-name}
 use Rattle.ifj_table.proofs.Changes.{on_err, classes-same, places-same, index-lt, known_class, held-same, classes-unchanged, places-unchanged, held-added, classes-added, places-added}
 use Rattle.ifj_table.proofs.table.Table.add_field.Goals as goal
+use Rattle.dj_names.proofs.Extending.{extends_reflexive, extends_transitive}
 
 pub invariant_of-self-in_err-kind : goal.invariant_of-self-in_err-kind
 invariant_of-self-in_err-kind c =
-    classes-grown c.self.inside.names c.add-2.new.self (Extends-trans _ _ _ c.in_ok-name.ensures.numbers c.in_err-kind.ensures.numbers) c.self.inside.classes.items c.self.invariant
+    classes-grown c.self.inside.names c.add-2.new.self (extends_transitive _ _ _ c.in_ok-name.ensures.numbers c.in_err-kind.ensures.numbers) c.self.inside.classes.items c.self.invariant
 
 pub returns-in_err-kind-clause-err : goal.returns-in_err-kind-clause-err
 returns-in_err-kind-clause-err c =
-    let grown = Extends-trans _ _ _ c.in_ok-name.ensures.numbers c.in_err-kind.ensures.numbers in
+    let grown = extends_transitive _ _ _ c.in_ok-name.ensures.numbers c.in_err-kind.ensures.numbers in
     on_err _ _ (classes-same c.self.inside.names c.add-2.new.self grown c.self.inside.classes.items c.self.invariant ∙ ap (λ (t : ClassTable). t.classes) c.self.view_is)
 
 pub returns-in_err-kind-clause-err_places : goal.returns-in_err-kind-clause-err_places
 returns-in_err-kind-clause-err_places c =
-    let grown = Extends-trans _ _ _ c.in_ok-name.ensures.numbers c.in_err-kind.ensures.numbers in
+    let grown = extends_transitive _ _ _ c.in_ok-name.ensures.numbers c.in_err-kind.ensures.numbers in
     on_err _ _ (places-same c.self.inside.names c.add-2.new.self grown c.self.inside.classes.items c.self.invariant ∙ ap (λ (t : ClassTable). t.places) c.self.view_is)
 
 pub index_mut-class-requires : goal.index_mut-class-requires
 index_mut-class-requires c =
     let before = c.self.inside.names in
     let after = c.add-2.new.self in
-    let grown = Extends-trans before c.add.new.self after c.in_ok-name.ensures.numbers c.in_ok-kind.ensures.numbers in
+    let grown = extends_transitive before c.add.new.self after c.in_ok-name.ensures.numbers c.in_ok-kind.ensures.numbers in
     let classes = c.self.inside.classes.items in
     let name = c.args.class.now in
     let there = subst (λ (t : ClassTable). IsSome (map.get t.classes name)) (sym c.self.view_is) c.requires.there in
@@ -39,7 +40,7 @@ pub position-index-requires-2 : goal.position-index-requires-2
 position-index-requires-2 c =
     let before = c.self.inside.names in
     let after = c.add-2.new.self in
-    let grown = Extends-trans before c.add.new.self after c.in_ok-name.ensures.numbers c.in_ok-kind.ensures.numbers in
+    let grown = extends_transitive before c.add.new.self after c.in_ok-name.ensures.numbers c.in_ok-kind.ensures.numbers in
     let classes = c.self.inside.classes.items in
     let name = c.args.class.now in
     let there = subst (λ (t : ClassTable). IsSome (map.get t.classes name)) (sym c.self.view_is) c.requires.there in
@@ -59,7 +60,7 @@ pub invariant_of-self-in_err-insert : goal.invariant_of-self-in_err-insert
 invariant_of-self-in_err-insert c =
     let before = c.self.inside.names in
     let after = c.add-2.new.self in
-    let grown = Extends-trans before c.add.new.self after c.in_ok-name.ensures.numbers c.in_ok-kind.ensures.numbers in
+    let grown = extends_transitive before c.add.new.self after c.in_ok-name.ensures.numbers c.in_ok-kind.ensures.numbers in
     let classes = c.self.inside.classes.items in
     let name = c.args.class.now in
     let there = subst (λ (t : ClassTable). IsSome (map.get t.classes name)) (sym c.self.view_is) c.requires.there in
@@ -72,7 +73,7 @@ pub returns-in_err-insert-clause-err : goal.returns-in_err-insert-clause-err
 returns-in_err-insert-clause-err c =
     let before = c.self.inside.names in
     let after = c.add-2.new.self in
-    let grown = Extends-trans before c.add.new.self after c.in_ok-name.ensures.numbers c.in_ok-kind.ensures.numbers in
+    let grown = extends_transitive before c.add.new.self after c.in_ok-name.ensures.numbers c.in_ok-kind.ensures.numbers in
     let classes = c.self.inside.classes.items in
     let name = c.args.class.now in
     let there = subst (λ (t : ClassTable). IsSome (map.get t.classes name)) (sym c.self.view_is) c.requires.there in
@@ -85,7 +86,7 @@ pub returns-in_err-insert-clause-err_places : goal.returns-in_err-insert-clause-
 returns-in_err-insert-clause-err_places c =
     let before = c.self.inside.names in
     let after = c.add-2.new.self in
-    let grown = Extends-trans before c.add.new.self after c.in_ok-name.ensures.numbers c.in_ok-kind.ensures.numbers in
+    let grown = extends_transitive before c.add.new.self after c.in_ok-name.ensures.numbers c.in_ok-kind.ensures.numbers in
     let classes = c.self.inside.classes.items in
     let name = c.args.class.now in
     let there = subst (λ (t : ClassTable). IsSome (map.get t.classes name)) (sym c.self.view_is) c.requires.there in
@@ -98,7 +99,7 @@ pub invariant_of-self-2 : goal.invariant_of-self-2
 invariant_of-self-2 c =
     let before = c.self.inside.names in
     let after = c.add-2.new.self in
-    let grown = Extends-trans before c.add.new.self after c.in_ok-name.ensures.numbers c.in_ok-kind.ensures.numbers in
+    let grown = extends_transitive before c.add.new.self after c.in_ok-name.ensures.numbers c.in_ok-kind.ensures.numbers in
     let classes = c.self.inside.classes.items in
     let name = c.args.class.now in
     let there = subst (λ (t : ClassTable). IsSome (map.get t.classes name)) (sym c.self.view_is) c.requires.there in
@@ -106,7 +107,7 @@ invariant_of-self-2 c =
     let class = c.index_mut-class.result.now in
     let here = c.index_mut-class.ensures.value ∙ ap (λ i. get_or classes i class) at in
     let entry : Entry FieldBody = record { name = c.in_ok-name.name; at = c.args.at; body = record { kind = c.in_ok-kind.kind; kind_at = c.args.kind_at } } in
-    let same = Extends-refl after in
+    let same = extends_reflexive after in
     let is_field = text_of-name c.add.new.self after c.in_ok-kind.ensures.numbers c.in_ok-name.name.0 c.args.field.now c.in_ok-name.ensures.name in
     let is_kind = text_of-name after after same c.in_ok-kind.kind.0 c.args.kind.now c.in_ok-kind.ensures.name in
     let absent = subst (λ (t : ClassTable). IfSome (map.get t.classes name) (λ d. map.get d.fields c.args.field.now ≡ None)) (sym c.self.view_is) c.requires.absent in
@@ -123,7 +124,7 @@ pub returns-clause-added : goal.returns-clause-added
 returns-clause-added c =
     let before = c.self.inside.names in
     let after = c.add-2.new.self in
-    let grown = Extends-trans before c.add.new.self after c.in_ok-name.ensures.numbers c.in_ok-kind.ensures.numbers in
+    let grown = extends_transitive before c.add.new.self after c.in_ok-name.ensures.numbers c.in_ok-kind.ensures.numbers in
     let classes = c.self.inside.classes.items in
     let name = c.args.class.now in
     let there = subst (λ (t : ClassTable). IsSome (map.get t.classes name)) (sym c.self.view_is) c.requires.there in
@@ -131,7 +132,7 @@ returns-clause-added c =
     let class = c.index_mut-class.result.now in
     let here = c.index_mut-class.ensures.value ∙ ap (λ i. get_or classes i class) at in
     let entry : Entry FieldBody = record { name = c.in_ok-name.name; at = c.args.at; body = record { kind = c.in_ok-kind.kind; kind_at = c.args.kind_at } } in
-    let same = Extends-refl after in
+    let same = extends_reflexive after in
     let is_field = text_of-name c.add.new.self after c.in_ok-kind.ensures.numbers c.in_ok-name.name.0 c.args.field.now c.in_ok-name.ensures.name in
     let is_kind = text_of-name after after same c.in_ok-kind.kind.0 c.args.kind.now c.in_ok-kind.ensures.name in
     let absent = subst (λ (t : ClassTable). IfSome (map.get t.classes name) (λ d. map.get d.fields c.args.field.now ≡ None)) (sym c.self.view_is) c.requires.absent in
@@ -143,7 +144,7 @@ pub returns-clause-placed : goal.returns-clause-placed
 returns-clause-placed c =
     let before = c.self.inside.names in
     let after = c.add-2.new.self in
-    let grown = Extends-trans before c.add.new.self after c.in_ok-name.ensures.numbers c.in_ok-kind.ensures.numbers in
+    let grown = extends_transitive before c.add.new.self after c.in_ok-name.ensures.numbers c.in_ok-kind.ensures.numbers in
     let classes = c.self.inside.classes.items in
     let name = c.args.class.now in
     let there = subst (λ (t : ClassTable). IsSome (map.get t.classes name)) (sym c.self.view_is) c.requires.there in
@@ -151,7 +152,7 @@ returns-clause-placed c =
     let class = c.index_mut-class.result.now in
     let here = c.index_mut-class.ensures.value ∙ ap (λ i. get_or classes i class) at in
     let entry : Entry FieldBody = record { name = c.in_ok-name.name; at = c.args.at; body = record { kind = c.in_ok-kind.kind; kind_at = c.args.kind_at } } in
-    let same = Extends-refl after in
+    let same = extends_reflexive after in
     let is_field = text_of-name c.add.new.self after c.in_ok-kind.ensures.numbers c.in_ok-name.name.0 c.args.field.now c.in_ok-name.ensures.name in
     let is_kind = text_of-name after after same c.in_ok-kind.kind.0 c.args.kind.now c.in_ok-kind.ensures.name in
     let absent = subst (λ (t : ClassTable). IfSome (map.get t.classes name) (λ d. map.get d.fields c.args.field.now ≡ None)) (sym c.self.view_is) c.requires.absent in
