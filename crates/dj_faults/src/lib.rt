@@ -10,6 +10,8 @@ mod numbers;
 mod operations;
 mod parts;
 mod spots;
+#[cfg(test)]
+mod tests;
 mod trees;
 
 pub use fault::{LineFault, first_fault};
