@@ -289,7 +289,7 @@ fn a_word_that_cannot_stand_is_refused(rt: HostRuntime) -> Result<(), Fail> {
     Ok(())
 }
 
-// Expressions with numbers: what they print and what they come to, each by features of its own.
+// Expressions of three kinds, which can be printed or evaluated where these features are chosen.
 const EXPRESSIONS: &str = "line EPL {
   features Lit, Add, Neg, Print, Eval;
   valid Lit & (Print | Eval);
