@@ -49,7 +49,7 @@ of_higher_node t home e rule at (unknown_variable is) low = omega arith
 of_higher_node t home e rule at _ low = omega arith
 
 pub of_higher_table : (t : Table) (rule at : ℕ) → TableRule t rule at → layer rule < 3 → ⊥
-of_higher_table t rule at (of_node home body node r p is within breaks) low = of_higher_node t home node rule at breaks low
+of_higher_table t rule at (of_node home body r p is breaks) low = of_higher_node t home breaks.node rule at breaks.breaks low
 of_higher_table t rule at _ low = omega arith
 
 -- two active deltas of one part, one behind the other

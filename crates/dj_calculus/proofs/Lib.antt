@@ -1,3 +1,4 @@
+pub mod ExpressionForms
 pub mod TypeLemmas
 pub mod ProductLemmas
 pub mod LayerLemmas

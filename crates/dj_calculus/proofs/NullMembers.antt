@@ -85,5 +85,5 @@ nothing_lower rule at (unknown_field_type c f e field is has missing) low = miss
 nothing_lower rule at (unknown_method_type c m e method kind is has within missing) low = missing (method_exists c m e method kind is has within)
 nothing_lower rule at (hidden_field c d f e upper field is has above upper_is there) low = nothing_above c d upper above upper_is
 nothing_lower rule at (override_differs c d m e upper method other is has above upper_is there differs) low = nothing_above c d upper above upper_is
-nothing_lower rule at (of_node home body node r p is within breaks) low = in_a_body table home node rule at breaks low
+nothing_lower rule at (of_node home body r p is breaks) low = in_a_body table home breaks.node rule at breaks.breaks low
 nothing_lower rule at (returned_type home body kind is types wrong) low = omega arith

@@ -3,7 +3,7 @@ use Rattle.std.proofs.Common.{◌≡◌, List, [], ◌∷◌, ◌++◌, Option, 
 use Rattle.std.specs.List.{flat_map, filter_map}
 use Rattle.dj_lexer.specs.Symbols.{Symbol}
 use Rattle.dj_lexer.specs.declared.token.Dialect.{Dialect}
-use Rattle.dj_lexer.specs.declared.token.Dialect.TheVariants.{Line}
+use Rattle.dj_lexer.specs.declared.token.Dialect.TheVariants.{Line, Java}
 use Rattle.arena_walk.specs.Tree.{trees_of}
 use Rattle.dj_tree.specs.Trees.{Expr, Method, Class, MemberOperation, adds_field, adds_method, modifies_method, removes_field, removes_method, Change, Operation, adds_class, modifies_class, removes_class, Delta, Source}
 use Rattle.dj_tree.specs.ExprGrammar.{ExprLevel, SpellsAt, assigned, one_unary, cast, one_postfix, field, call, one_primary, this_word, null_word, variable_name, original, new_object, in_parentheses}
@@ -12,20 +12,22 @@ use Rattle.dj_tree.specs.Repeats as repeats
 use Rattle.dj_tree.specs.Repeats.{Many}
 use Rattle.dj_tree.specs.ClassGrammar as classes
 use Rattle.dj_tree.specs.ClassGrammar.{SpellsMethod, Member, field_member, method_member, SpellsMember, methods_of, SpellsClass}
+use Rattle.dj_tree.specs.Spells.{SpellsJava}
 use Rattle.dj_tree.specs.LineGrammar as lines
 use Rattle.dj_tree.specs.LineGrammar.{adds_member, SpellsMemberOperation, SpellsOperation, SpellsDelta, SpellsSource}
 use Rattle.dj_calculus.specs.Contents.{operations_of, classes_of, changes_of, added_by, change_by, method_added, method_modified, new_methods, modified_methods}
-use Rattle.dj_calculus.specs.Expressions.{IsExpression, a_variable, a_this, a_null, a_new, a_cast, a_field, an_assignment, a_call, an_original, AreExpressions, no_expressions, expression_and, HasExpressions}
+use Rattle.dj_calculus.specs.Expressions.{IsExpression, HasExpressions, HaveExpressions}
+use Rattle.dj_calculus.proofs.ExpressionForms.{Formed, a_variable, a_this, a_null, a_new, a_cast, a_field, an_assignment, a_call, an_original, EachFormed, none_formed, formed_and, is_formed}
 use Rattle.dj_calculus.specs.Things.{does}
 use Rattle.dj_calculus.proofs.Members.{no_element, first_or_other, among_others, either, filtered_from, in_front_or_behind, from_flat}
 use Rattle.dj_calculus.proofs.FormedProducts.{FormedStep, FormedOperation}
 
-are_more : (es : List Expr) (e : Expr) → AreExpressions (trees_of es) → IsExpression e → AreExpressions (trees_of (es ++ e ∷ []))
-are_more [] e are is = expression_and is no_expressions
-are_more (x ∷ es) e (expression_and it are) is = expression_and it (are_more es e are is)
+are_more : (es : List Expr) (e : Expr) → EachFormed (trees_of es) → Formed e → EachFormed (trees_of (es ++ e ∷ []))
+are_more [] e are is = formed_and is none_formed
+are_more (x ∷ es) e (formed_and it are) is = formed_and it (are_more es e are is)
 
 mutual
-  spelled : (d : Dialect) (l : ExprLevel) (s : List Symbol) (e : Expr) → SpellsAt d l s e → IsExpression e
+  spelled : (d : Dialect) (l : ExprLevel) (s : List Symbol) (e : Expr) → SpellsAt d l s e → Formed e
   spelled d l s e (assigned {s = s'} {t = t} {e = u} {v = v} dot equals f name front back) = an_assignment (spelled d _ s' u front) (spelled d _ t v back)
   spelled d l s e (one_unary spells) = spelled d _ s e spells
   spelled d l s e (cast {s = t} {e = v} opening closing class name spells) = a_cast (spelled d _ t v spells)
@@ -40,16 +42,16 @@ mutual
   spelled d l s e (new_object at opening closing class name) = a_new
   spelled d l s e (in_parentheses {s = t} opening closing spells) = spelled d _ t e spells
 
-  spelled_arguments : (d : Dialect) (s : List Symbol) (es : List Expr) → SpellsArguments d s es → AreExpressions (trees_of es)
-  spelled_arguments d s es no_arguments = no_expressions
+  spelled_arguments : (d : Dialect) (s : List Symbol) (es : List Expr) → SpellsArguments d s es → EachFormed (trees_of es)
+  spelled_arguments d s es no_arguments = none_formed
   spelled_arguments d s es (some_arguments each) = spelled_each d s es each
 
-  spelled_each : (d : Dialect) (s : List Symbol) (es : List Expr) → SpellsEach d s es → AreExpressions (trees_of es)
-  spelled_each d s es (one {e = e} spells) = expression_and (spelled d _ s e spells) no_expressions
+  spelled_each : (d : Dialect) (s : List Symbol) (es : List Expr) → SpellsEach d s es → EachFormed (trees_of es)
+  spelled_each d s es (one {e = e} spells) = formed_and (spelled d _ s e spells) none_formed
   spelled_each d s es (next {s = s'} {t = t} {es = front} {e = e} comma each spells) = are_more front e (spelled_each d s' front each) (spelled d _ t e spells)
 
 spelled_method : (d : Dialect) (s : List Symbol) (m : Method) → SpellsMethod d s m → IsExpression m.body
-spelled_method d s m (classes.method {value = value} {body = body} a b c e f g head parameters spells) = spelled d _ value body spells
+spelled_method d s m (classes.method {value = value} {body = body} a b c e f g head parameters spells) = is_formed body (spelled d _ value body spells)
 
 abbrev FormedMember : Member → Type 0
 FormedMember (field_member f) = Unit {0}
@@ -158,3 +160,7 @@ module _ (source : Source) (all : (delta : Delta) → Contains source.deltas del
 
 pub spelled_expressions : (s : List Symbol) (source : Source) → SpellsSource s source → HasExpressions source
 spelled_expressions s source spells = has_expressions source (spelled_deltas s source spells)
+
+pub spelled_java : (s : List Symbol) (classes : List Class) → SpellsJava s classes → HaveExpressions classes
+spelled_java s classes spells c m within has =
+    each_spelled (SpellsClass Java) (λ x. (y : Method) → Contains x.methods y → IsExpression y.body) (spelled_class Java) s classes spells c within m has

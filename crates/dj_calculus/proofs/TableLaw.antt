@@ -8,17 +8,18 @@ use Rattle.dj_tree.specs.Trees.{Spot, Expr}
 use Rattle.dj_tree.specs.declared.source.Instance.{Instance}
 use Rattle.dj_calculus.specs.Tables.{FieldEntry, MethodEntry, ClassEntry, Table}
 use Rattle.dj_calculus.specs.Entries.{same_signature}
-use Rattle.dj_calculus.specs.Subclasses.{object, Exists, Steps, stay, up, Above}
+use Rattle.dj_calculus.specs.Subclasses.{object, Exists, Steps, stay, up, Above, class_kind}
 use Rattle.dj_calculus.specs.Typing.{Home, IsBody, kept, Returns, types_in, WellTyped}
 use Rattle.dj_calculus.specs.Expressions.{IsExpression}
+use Rattle.dj_calculus.specs.TableForms.{IsTable}
 use Rattle.dj_calculus.specs.BodyRules.{place_of}
 use Rattle.dj_calculus.specs.Instances.{layer}
 use Rattle.dj_calculus.specs.TableRules.{TableRule, unknown_superclass, circular_superclasses, unknown_field_type, unknown_method_type, hidden_field, override_differs, of_node, returned_type, CountsIn}
 use Rattle.dj_calculus.proofs.LayerLemmas.{of_higher_table}
 use Rattle.dj_calculus.proofs.Members.{either}
-use Rattle.dj_calculus.proofs.Chains.{none_or_value, ends_or_endless}
+use Rattle.dj_calculus.proofs.Chains.{Ends, none_or_value, ends_or_endless}
 use Rattle.dj_calculus.proofs.RuleLemmas.{sound_table}
-use Rattle.dj_calculus.proofs.TypingDecided.{exists_decided, holds, type_it, below_decided, type_exists}
+use Rattle.dj_calculus.proofs.TypingDecided.{TypedOrBroken, exists_decided, holds, typed_or_broken, below_decided}
 
 at_most_five : (b c d e : Bool) → (if b then 1 else (if c then 2 else (if d then 3 else (if e then 4 else 5)))) ≤ 5
 at_most_five true c d e = omega arith
@@ -68,9 +69,11 @@ module _ (t : Table) (no_object : get t object ≡ None) (formed : (home : Home)
       either (ends_or_endless t c) (λ ends. subst (Steps t c) (top_is_object c ends.0 (inr (ap is_some is)) ends.1 ends.2) ends.1)
       (λ endless. absurd (no_rule 10 e.parent.at (circular_superclasses c e is endless)))
 
-  rooted : (c : Text) → Exists t c → Steps t c object
-  rooted c (inl is) = subst (λ x. Steps t x object) (sym is) stay
-  rooted c (inr there) = either (none_or_value (get t c)) (λ none. none_is_some (get t c) none there) (λ found. rooted_class c found.0 found.1)
+  each_ends : (c : Text) → Ends t c
+  each_ends c =
+      either (ends_or_endless t c) (λ ends. ends)
+      (λ endless. either (none_or_value (get t c)) (λ none. (c, stay, none))
+      (λ found. absurd (no_rule 10 found.0.parent.at (circular_superclasses c found.0 found.1 endless))))
 
   field_types : (c f : Text) (entry : ClassEntry) (field : FieldEntry) → get t c ≡ Some entry → get entry.fields f ≡ Some field → Exists t field.kind.text
   field_types c f e field is has = holds (exists_decided t field.kind.text) (λ missing. no_rule 11 field.kind.at (unknown_field_type c f e field is has missing))
@@ -92,19 +95,14 @@ module _ (t : Table) (no_object : get t object ≡ None) (formed : (home : Home)
       either (true_or_false (same_signature method.signature other.signature)) (λ yes. yes)
       (λ differs. absurd (no_rule 13 method.at (override_differs c d m e upper method other is has over upper_is there differs)))
 
-  returns : (home : Home) (e : Expr) → IsBody t home e → Exists t home.class → ((kind : Spot) → Contains (types_in home.signature) kind → Exists t kind.text)
-      → Returns t home e
-  returns home e body its_class its_types =
-      let has = type_it t no_object rooted field_types signatures home its_class its_types e (formed home e body)
-      (λ node rule at within breaks. no_rule rule at (of_node home e node rule at body within breaks)) in
-      either (below_decided t no_object rooted field_types signatures home its_class its_types has.0 home.signature.result.text
-      (type_exists t no_object rooted field_types signatures home its_class its_types e has.0 has.1))
-      (λ below. record { kind = has.0; types = has.1; below = below })
+  below_result : (home : Home) (e : Expr) → IsBody t home e → TypedOrBroken t home e → Returns t home e
+  below_result home e body (inl has) =
+      either (below_decided t each_ends has.0 (class_kind home.heading.result)) (λ below. record { kind = has.0; types = has.1; below = below })
       (λ wrong. absurd (no_rule 21 (place_of e) (returned_type home e has.0 body has.1 wrong)))
+  below_result home e body (inr broken) = absurd (no_rule broken.0 broken.1.0 (of_node home e broken.0 broken.1.0 body broken.1.1))
 
   bodies : (home : Home) (e : Expr) → IsBody t home e → Returns t home e
-  bodies home e (kept {c = c} m {entry = entry} {method = method} is has within) =
-      returns home e (kept m is has within) (inr (ap is_some is)) (λ kind of. signatures c m entry method kind is has of)
+  bodies home e body = below_result home e body (typed_or_broken t each_ends home e (formed home e body))
 
   pub well_typed : WellTyped t
   well_typed =
@@ -117,6 +115,11 @@ module _ (t : Table) (no_object : get t object ≡ None) (formed : (home : Home)
         methods = overrides;
         bodies = bodies;
       }
+
+-- the bodies of a table are expressions
+pub bodies_are_expressions : (t : Table) → IsTable t → (home : Home) (e : Expr) → IsBody t home e → IsExpression e
+bodies_are_expressions t is home e (kept {c = c} m {entry = entry} {method = method} {body = body} there has within) =
+    ((is.methods c m entry method there has).bodies body within).expression
 
 pub well_typed_exactly_if : (t : Table) → get t object ≡ None → ((home : Home) (e : Expr) → IsBody t home e → IsExpression e)
     → WellTyped t ↔ ((i : Instance) → ¬ (CountsIn t i))

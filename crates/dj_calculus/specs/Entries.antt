@@ -14,7 +14,7 @@ abbrev pub signature_of : Method → Signature
 signature_of m = record { parameters = map (λ p. p.kind) m.parameters; result = m.kind }
 
 abbrev pub body_of : Method → Body
-body_of m = record { names = map (λ p. p.name.text) m.parameters; value = m.body }
+body_of m = record { names = map (λ p. p.name) m.parameters; value = m.body }
 
 abbrev pub method_entry : Method → MethodEntry
 method_entry m = record { at = m.name.at; signature = signature_of m; bodies = body_of m ∷ [] }

@@ -49,5 +49,5 @@ FieldOfNull = CountsIn (table_of (NullMember.class_a ∷ [])) (record { rule = 2
 abbrev pub CastOfNull : Type 0
 CastOfNull =
     Types (table_of (NullCast.class_a ∷ []))
-    (record { class = codes "A"; signature = record { parameters = []; result = spot "A" 10 }; names = [] })
+    (record { class = codes "A"; heading = record { parameters = []; result = codes "A" }; names = [] })
     (cast_to (spot "A" 26) (null_at 29)) (class_kind (codes "A"))

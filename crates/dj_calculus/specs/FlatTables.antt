@@ -2,12 +2,13 @@
 use Rattle.std.specs.Prelude.{◌≡◌, ◌⊎◌, ℕ, ◌+◌, ◌-◌, ◌==◌, Bool, List, [], ◌∷◌, ◌++◌, map, length, slice_get, Some, IsFalse, codes, if◌then◌else◌}
 use Rattle.std.specs.List.{All, list_any, enumerate_from, flat_map}
 use Rattle.std.specs.Fmt.{decimal}
-use Rattle.std.specs.FinMap.{get, entries, from_entries}
+use Rattle.std.specs.FinMap.{entries, from_entries}
 use Rattle.dj_names.specs.Texts.{Text}
 use Rattle.arena_walk.specs.Tree.{nodes, over, fold_tree}
-use Rattle.dj_tree.specs.Trees.{Expr, ExprForm, VariableForm, ThisForm, NullForm, FieldForm, CallForm, NewForm, CastForm, AssignForm, OriginalForm, this_at, call_of}
-use Rattle.dj_calculus.specs.Tables.{FieldEntry, Body, MethodEntry, ClassEntry, Table}
+use Rattle.dj_tree.specs.Trees.{Spot, Expr, ExprForm, VariableForm, ThisForm, NullForm, FieldForm, CallForm, NewForm, CastForm, AssignForm, OriginalForm, this_at, call_of}
+use Rattle.dj_calculus.specs.Tables.{FieldEntry, Body, MethodEntry, ClassEntry, Table, texts_of}
 use Rattle.dj_calculus.specs.Entries.{says_original}
+use Rattle.dj_calculus.specs.TableForms.{EachMethod}
 
 -- m$C$k, the name of the version of this number of method m of class C
 abbrev pub version_name : Text → Text → ℕ → Text
@@ -52,14 +53,14 @@ names_in_form (AssignForm f) = f.text ∷ []
 names_in_form (OriginalForm at) = []
 
 abbrev pub names_in_body : Body → List Text
-names_in_body body = body.names ++ flat_map names_in_form (nodes body.value)
+names_in_body body = texts_of body.names ++ flat_map names_in_form (nodes body.value)
 
 abbrev pub names_in_field : Text × FieldEntry → List Text
 names_in_field entry = entry.0 ∷ entry.1.kind.text ∷ []
 
 abbrev pub names_in_method : Text × MethodEntry → List Text
 names_in_method entry =
-    entry.0 ∷ entry.1.signature.result.text ∷ (map (λ kind. kind.text) entry.1.signature.parameters ++ flat_map names_in_body entry.1.bodies)
+    entry.0 ∷ entry.1.signature.result.text ∷ (texts_of entry.1.signature.parameters ++ flat_map names_in_body entry.1.bodies)
 
 abbrev pub names_in_class : Text × ClassEntry → List Text
 names_in_class entry =
@@ -68,12 +69,9 @@ names_in_class entry =
 abbrev pub has_dollar : Text → Bool
 has_dollar name = list_any (λ byte. byte == 36) name
 
-abbrev pub EachMethod : Table → (MethodEntry → Type 0) → Type 0
-EachMethod t P = (c m : Text) (entry : ClassEntry) (method : MethodEntry) → get t c ≡ Some entry → get entry.methods m ≡ Some method → P method
-
--- the oldest body says no `original`
+-- there is an oldest body, and it says no `original`
 abbrev pub BeginsPlainly : MethodEntry → Type 0
-BeginsPlainly method = (body : Body) → slice_get method.bodies 0 ≡ Some body → IsFalse (says_original body.value)
+BeginsPlainly method = (oldest : Body) × (slice_get method.bodies 0 ≡ Some oldest) × IsFalse (says_original oldest.value)
 
 -- there is one body, and it says no `original`
 abbrev pub HasOneBody : MethodEntry → Type 0

@@ -72,10 +72,10 @@ abbrev pub field_text : Text × FieldEntry → Text
 field_text entry = line (codes "  " ++ (entry.1.kind.text ++ (codes " " ++ (entry.0 ++ codes ";"))))
 
 -- a parameter: its type and its name
-abbrev pub parameter_text : Spot × Text → Text
-parameter_text parameter = parameter.0.text ++ (codes " " ++ parameter.1)
+abbrev pub parameter_text : Spot × Spot → Text
+parameter_text parameter = parameter.0.text ++ (codes " " ++ parameter.1.text)
 
-abbrev pub head_text : Text → Signature → List Text → Text
+abbrev pub head_text : Text → Signature → List Spot → Text
 head_text m signature names =
     codes "  " ++ (signature.result.text ++ (codes " " ++ (m ++ (in_parentheses (listed (map parameter_text (zip signature.parameters names))) ++ codes " {"))))
 

@@ -1,9 +1,9 @@
 -- Laws of the definitions.
-use Rattle.std.specs.Prelude.{◌≡◌, ◌↔◌, ◌≤◌, ℕ, None, Contains}
+use Rattle.std.specs.Prelude.{◌≡◌, ◌↔◌, ◌≤◌, ℕ, List, None, Contains}
 use Rattle.std.specs.FinMap.{get}
 use Rattle.dj_names.specs.Texts.{Text}
-use Rattle.dj_tree.specs.Trees.{Expr, Part, Source}
-use Rattle.dj_tree.specs.Spells.{Laid}
+use Rattle.dj_tree.specs.Trees.{Expr, Class, Part, Source}
+use Rattle.dj_tree.specs.Spells.{Laid, LaidJava}
 use Rattle.dj_tree.specs.declared.source.Instance.{Instance}
 use Rattle.dj_calculus.specs.Configurations.{Configuration}
 use Rattle.dj_calculus.specs.Faults.{Fault, RepeatedPart}
@@ -11,11 +11,12 @@ use Rattle.dj_calculus.specs.FaultPlaces.{FaultStands}
 use Rattle.dj_calculus.specs.Accepted.{FirstFault, IsAccepted}
 use Rattle.dj_calculus.specs.Parts.{IsReached, chain}
 use Rattle.dj_calculus.specs.Good.{HasProduct, GoodAt, IsGood, IsVoid}
-use Rattle.dj_calculus.specs.Tables.{FieldEntry, MethodEntry, Table}
+use Rattle.dj_calculus.specs.Tables.{Table, Heading}
 use Rattle.dj_calculus.specs.Products.{IsAllowed, default_order, Product}
 use Rattle.dj_calculus.specs.Subclasses.{object, Kind, FieldOf, MethodOf}
-use Rattle.dj_calculus.specs.Typing.{Home, Types, IsBody, WellTyped}
-use Rattle.dj_calculus.specs.Expressions.{IsExpression, HasExpressions}
+use Rattle.dj_calculus.specs.Typing.{Home, Types, WellTyped}
+use Rattle.dj_calculus.specs.Expressions.{HasExpressions, HaveExpressions}
+use Rattle.dj_calculus.specs.TableForms.{IsTable}
 use Rattle.dj_calculus.specs.Instances.{layer, IsLower, IsLeast}
 use Rattle.dj_calculus.specs.TableRules.{StandsIn, CountsIn}
 use Rattle.dj_calculus.specs.LineRules.{Stands, Counts, BreaksRule}
@@ -32,10 +33,10 @@ VoidIsGood = (source : Source) → IsVoid source → IsGood source
 
 -- a class has at most one field, and one method, of a name
 abbrev pub OneField : Type 0
-OneField = (t : Table) (c f : Text) (a b : FieldEntry) → FieldOf t c f a → FieldOf t c f b → a ≡ b
+OneField = (t : Table) (c f a b : Text) → FieldOf t c f a → FieldOf t c f b → a ≡ b
 
 abbrev pub OneMethod : Type 0
-OneMethod = (t : Table) (c m : Text) (a b : MethodEntry) → MethodOf t c m a → MethodOf t c m b → a ≡ b
+OneMethod = (t : Table) (c m : Text) (a b : Heading) → MethodOf t c m a → MethodOf t c m b → a ≡ b
 
 -- an expression has at most one type
 abbrev pub OneType : Type 0
@@ -83,21 +84,23 @@ abbrev pub ProductExactlyIf : Type 0
 ProductExactlyIf = (source : Source) (c : Configuration) → IsAccepted source
     → HasProduct source c ↔ ((i : Instance) → layer i.rule ≤ 2 → ¬ (Counts source c i))
 
--- A table of expressions in which `Object` is no class is well typed exactly if no instance counts in it.
+-- A table is well typed exactly if no instance counts in it.
 abbrev pub WellTypedExactlyIf : Type 0
-WellTypedExactlyIf = (t : Table) → get t object ≡ None → ((home : Home) (e : Expr) → IsBody t home e → IsExpression e)
-    → WellTyped t ↔ ((i : Instance) → ¬ (CountsIn t i))
+WellTypedExactlyIf = (t : Table) → IsTable t → WellTyped t ↔ ((i : Instance) → ¬ (CountsIn t i))
 
--- the bodies of a source that tokens spell are expressions
+-- the bodies of a source that tokens spell are expressions, and so are those of classes that tokens of Java spell
 abbrev pub LaidHasExpressions : Type 0
 LaidHasExpressions = (source : Source) → Laid source → HasExpressions source
 
--- A configuration of an accepted line is good exactly if no instance counts in it.
+abbrev pub LaidHaveExpressions : Type 0
+LaidHaveExpressions = (classes : List Class) → LaidJava classes → HaveExpressions classes
+
+-- A configuration of an accepted line whose bodies are expressions is good exactly if no instance counts in it.
 abbrev pub GoodExactlyIf : Type 0
-GoodExactlyIf = (source : Source) (c : Configuration) → Laid source → IsAccepted source
+GoodExactlyIf = (source : Source) (c : Configuration) → HasExpressions source → IsAccepted source
     → GoodAt source c ↔ ((i : Instance) → ¬ (Counts source c i))
 
 -- It is good exactly if it breaks no rule.
 abbrev pub GoodExactlyIfUnbroken : Type 0
-GoodExactlyIfUnbroken = (source : Source) (c : Configuration) → Laid source → IsAccepted source
+GoodExactlyIfUnbroken = (source : Source) (c : Configuration) → HasExpressions source → IsAccepted source
     → GoodAt source c ↔ ((rule : ℕ) → ¬ (BreaksRule source c rule))

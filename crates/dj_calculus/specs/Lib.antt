@@ -16,6 +16,7 @@ pub mod Products
 pub mod Subclasses
 pub mod Typing
 pub mod Expressions
+pub mod TableForms
 pub mod Instances
 pub mod BodyRules
 pub mod TableRules

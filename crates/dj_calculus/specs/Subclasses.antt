@@ -2,7 +2,7 @@
 use Rattle.std.specs.Prelude.{◌≡◌, ◌⊎◌, Option, Some, None, IsSome, codes}
 use Rattle.std.specs.FinMap.{get}
 use Rattle.dj_names.specs.Texts.{Text}
-use Rattle.dj_calculus.specs.Tables.{FieldEntry, MethodEntry, ClassEntry, Table}
+use Rattle.dj_calculus.specs.Tables.{FieldEntry, MethodEntry, ClassEntry, Table, Heading, heading_of}
 
 abbrev pub object : Text
 object = codes "Object"
@@ -50,9 +50,22 @@ pub data Nearest {X : Type 0} (t : Table) (member : ClassEntry → Option X) : T
   inherited : {c d : Text} {entry : ClassEntry} {x : X} → get t c ≡ Some entry → member entry ≡ None
       → Nearest t member entry.parent.text d x → Nearest t member c d x
 
--- the field of a class, and the method of a class: the nearest one
-abbrev pub FieldOf : Table → Text → Text → FieldEntry → Type 0
-FieldOf t c f field = (owner : Text) × Nearest t (λ entry. get entry.fields f) c owner field
+abbrev pub NearestField : Table → Text → Text → Text → FieldEntry → Type 0
+NearestField t c f owner field = Nearest t (λ entry. get entry.fields f) c owner field
 
-abbrev pub MethodOf : Table → Text → Text → MethodEntry → Type 0
-MethodOf t c m method = (owner : Text) × Nearest t (λ entry. get entry.methods m) c owner method
+abbrev pub NearestMethod : Table → Text → Text → Text → MethodEntry → Type 0
+NearestMethod t c m owner method = Nearest t (λ entry. get entry.methods m) c owner method
+
+-- the field of a class is the nearest one, and has this type
+pub record FieldOf (t : Table) (c f kind : Text) : Type 0 where
+  pub owner : Text
+  pub field : FieldEntry
+  pub nearest : NearestField t c f owner field
+  pub has : field.kind.text ≡ kind
+
+-- the method of a class is the nearest one, and has this heading
+pub record MethodOf (t : Table) (c m : Text) (heading : Heading) : Type 0 where
+  pub owner : Text
+  pub method : MethodEntry
+  pub nearest : NearestMethod t c m owner method
+  pub has : heading_of method.signature ≡ heading

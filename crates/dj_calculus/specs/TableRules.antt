@@ -8,7 +8,7 @@ use Rattle.dj_calculus.specs.Tables.{FieldEntry, MethodEntry, ClassEntry, Table}
 use Rattle.dj_calculus.specs.Entries.{same_signature}
 use Rattle.dj_calculus.specs.Subclasses.{Exists, Steps, Above, Kind, class_kind, Below}
 use Rattle.dj_calculus.specs.Typing.{Home, Types, IsBody, types_in}
-use Rattle.dj_calculus.specs.BodyRules.{place_of, IsWithin, NodeRule}
+use Rattle.dj_calculus.specs.BodyRules.{place_of, BreaksWithin}
 use Rattle.dj_calculus.specs.Instances.{CountsAmong}
 
 -- the class's chain of superclasses never ends: each class on it is in the table
@@ -34,11 +34,10 @@ pub data TableRule (t : Table) : ℕ → ℕ → Type 0 where
       → get entry.methods m ≡ Some method → Above t c d → get t d ≡ Some upper → get upper.methods m ≡ Some other
       → IsFalse (same_signature method.signature other.signature) → TableRule t 13 method.at
   -- 14 to 20, 22 and 23: a node of a body breaks it
-  of_node : (home : Home) (body node : Expr) (rule at : ℕ) → IsBody t home body → IsWithin node body → NodeRule t home node rule at
-      → TableRule t rule at
+  of_node : (home : Home) (body : Expr) (rule at : ℕ) → IsBody t home body → BreaksWithin t home body rule at → TableRule t rule at
   -- 21, returned type: a body's type isn't below the result type
   returned_type : (home : Home) (body : Expr) (kind : Kind) → IsBody t home body → Types t home body kind
-      → ¬ (Below t kind (class_kind home.signature.result.text)) → TableRule t 21 (place_of body)
+      → ¬ (Below t kind (class_kind home.heading.result)) → TableRule t 21 (place_of body)
 
 -- an instance has one place, but for rule 1
 pub record StandsIn (t : Table) (i : Instance) : Type 0 where

@@ -18,7 +18,7 @@ pub record Signature : Type 0 where
 
 -- a body of a method: the names of its parameters, and its expression
 pub record Body : Type 0 where
-  pub names : List Text
+  pub names : List Spot
   pub value : Expr
 
 -- a method: the place of its name, its signature, and its bodies, oldest first
@@ -41,6 +41,17 @@ abbrev pub empty_table : Table
 empty_table = empty
 
 -- ---- without places
+
+abbrev pub texts_of : List Spot → List Text
+texts_of spots = map (λ x. x.text) spots
+
+-- a signature as texts: the types of the parameters and of the result
+pub record Heading : Type 0 where
+  pub parameters : List Text
+  pub result : Text
+
+abbrev pub heading_of : Signature → Heading
+heading_of s = record { parameters = texts_of s.parameters; result = s.result.text }
 
 -- Each place is 0.
 abbrev pub unplaced : Spot → Spot
@@ -67,7 +78,7 @@ abbrev pub unplaced_signature : Signature → Signature
 unplaced_signature s = record { parameters = map unplaced s.parameters; result = unplaced s.result }
 
 abbrev pub unplaced_body : Body → Body
-unplaced_body b = record { names = b.names; value = unplaced_expr b.value }
+unplaced_body b = record { names = map unplaced b.names; value = unplaced_expr b.value }
 
 abbrev pub unplaced_method : MethodEntry → MethodEntry
 unplaced_method m = record { at = 0; signature = unplaced_signature m.signature; bodies = map unplaced_body m.bodies }

@@ -1,5 +1,5 @@
 //! Laws of faults, operations, products, types and instances.
-ghost use Rattle.dj_calculus.specs.Laws.{OneFirstFault, VoidIsGood, ChainIsReached, OneField, OneMethod, OneType, DefaultIsAllowed, OneProduct, LineCountsByLayers, TableCountsByLayers, OneLeast, OneLeastInTable, WellTypedBreaksNothing, GoodBreaksNothing, ProductExactlyIf, WellTypedExactlyIf, LaidHasExpressions, GoodExactlyIf, GoodExactlyIfUnbroken};
+ghost use Rattle.dj_calculus.specs.Laws.{OneFirstFault, VoidIsGood, ChainIsReached, OneField, OneMethod, OneType, DefaultIsAllowed, OneProduct, LineCountsByLayers, TableCountsByLayers, OneLeast, OneLeastInTable, WellTypedBreaksNothing, GoodBreaksNothing, ProductExactlyIf, WellTypedExactlyIf, LaidHasExpressions, LaidHaveExpressions, GoodExactlyIf, GoodExactlyIfUnbroken};
 ghost use Rattle.dj_calculus.specs.OperationLaws.{AddsClass, RemovesClass, ModifiesClass, Extends, ChangesFields, ChangesMethods, ModifiesMethod};
 
 /// A source has at most one first fault, and none where it is accepted.
@@ -73,17 +73,19 @@ pub fn product_exactly_if()
     ensures { ProductExactlyIf }
 {}
 
-/// A table whose bodies are expressions, and in which `Object` is no class, is well typed exactly if no instance counts in it.
+/// A table is well typed exactly if no instance counts in it.
 pub fn well_typed_exactly_if()
     ensures { WellTypedExactlyIf }
 {}
 
-/// The bodies of a source that tokens spell are expressions.
+/// The bodies of a source that tokens spell are expressions, and so are those of classes that tokens of Java spell.
 pub fn laid_has_expressions()
-    ensures { LaidHasExpressions }
+    ensures of_a_source { LaidHasExpressions }
+    ensures of_classes { LaidHaveExpressions }
 {}
 
-/// A configuration of an accepted line that tokens spell is good exactly if no instance counts in it, that is if it breaks no rule.
+/// A configuration of an accepted line whose bodies are expressions is good exactly if no instance counts in it, that is if it
+/// breaks no rule.
 pub fn good_exactly_if()
     ensures no_instance { GoodExactlyIf }
     ensures no_rule { GoodExactlyIfUnbroken }

@@ -73,9 +73,9 @@ product =
                 at = 378;
                 signature = record { parameters = spot "C" 380 ∷ []; result = spot "C" 376 };
                 bodies =
-                    record { names = codes "x" ∷ []; value = variable (spot "x" 134) }
-                    ∷ record { names = codes "z" ∷ []; value = original_at 251 (variable (spot "z" 260) ∷ []) }
-                    ∷ record { names = codes "w" ∷ []; value = original_at 394 (call_of (variable (spot "w" 403)) (spot "m" 405) (variable (spot "w" 407) ∷ []) ∷ []) }
+                    record { names = spot "x" 122 ∷ []; value = variable (spot "x" 134) }
+                    ∷ record { names = spot "z" 239 ∷ []; value = original_at 251 (variable (spot "z" 260) ∷ []) }
+                    ∷ record { names = spot "w" 382 ∷ []; value = original_at 394 (call_of (variable (spot "w" 403)) (spot "m" 405) (variable (spot "w" 407) ∷ []) ∷ []) }
                     ∷ [];
               },
             )
@@ -96,8 +96,8 @@ product =
                 at = 300;
                 signature = record { parameters = spot "C" 302 ∷ []; result = spot "C" 298 };
                 bodies =
-                    record { names = codes "y" ∷ []; value = variable (spot "y" 184) }
-                    ∷ record { names = codes "z" ∷ []; value = original_at 316 (this_at 325 ∷ []) }
+                    record { names = spot "y" 172 ∷ []; value = variable (spot "y" 184) }
+                    ∷ record { names = spot "z" 304 ∷ []; value = original_at 316 (this_at 325 ∷ []) }
                     ∷ [];
               },
             )

@@ -11,7 +11,7 @@ use Rattle.dj_calculus.proofs.examples.null_values.Goals as goal
 pub returns-clause-field_of_null : goal.returns-clause-field_of_null
 returns-clause-field_of_null c =
     record {
-      stands = record { breaks = of_node _ _ _ 23 35 (kept (codes "d") {body = body} there has_method (0, omega arith, refl)) itself (field_of_null type_of_null); one_place = refl };
+      stands = record { breaks = of_node _ _ 23 35 (kept (codes "d") {body = body} there has_method (0, omega arith, refl)) (record { node = _; within = itself; breaks = field_of_null type_of_null }); one_place = refl };
       clean = λ lower below stands. nothing_lower lower.rule lower.at stands.breaks below;
     }
 
