@@ -1,4 +1,4 @@
--- Disjoint deltas are independent, and so are the operations of one delta of an accepted line.
+-- Deltas that are disjoint are independent, and so are the operations of a delta and the steps of a change. For clients too.
 use Rattle.std.proofs.Common.{◌≡◌, ◌⊎◌, inl, inr, Bool, true, false, ◌&&◌, cond, List, [], ◌∷◌, ◌++◌, map, Option, Some, None, Contains, refl, sym, ap, ◌∙◌, subst, arith}
 use Rattle.std.specs.Option.{option_map}
 use Rattle.std.specs.List.{filter_map}
@@ -16,7 +16,7 @@ use Rattle.dj_calculus.specs.Things.{Step, extends, does, first_steps, steps_of,
 use Rattle.dj_calculus.specs.Conflicts.{same_piece, collide, conflict, Disjoint}
 use Rattle.dj_calculus.specs.Tables.{ClassEntry}
 use Rattle.dj_calculus.specs.Operations.{run, update, inside, Held, look, write, changes, take_step, class_changes, apply, apply_delta}
-use Rattle.dj_calculus.proofs.MapLemmas.{text_total, text_antisymmetric, text_get-insert, text_get-remove, is_equal}
+use Rattle.dj_calculus.proofs.MapLemmas.{text_total, text_antisymmetric, text_get-insert, text_get-remove, same_key}
 use Rattle.dj_calculus.proofs.Members.{each_of, each_map, among_others, either, mapped_within, within_flat, StandOnce, later_once, first_apart, mapped}
 use Rattle.dj_calculus.proofs.OperationLemmas.{get_elsewhere, look_elsewhere, named, apart_members, not_superclass, later_option}
 use Rattle.dj_calculus.proofs.Independence.{Independent, turned, run_independent, Pairwise, no_pairs, pairs}
@@ -103,20 +103,17 @@ get_with_at {X} m k (Some x) q = text_get-insert X m k x q
 itself : (k : Text) → eq_by_cmp text_cmp k k ≡ true
 itself k = (eq_by_cmp_equiv text_total).refl k
 
-get_there : {X : Type 0} (m : TextMap X) (k : Text) (held : Option X) → get (with_at m k held) k ≡ held
+pub get_there : {X : Type 0} (m : TextMap X) (k : Text) (held : Option X) → get (with_at m k held) k ≡ held
 get_there m k held = get_with_at m k held k ∙ ap (λ b. cond b held (get m k)) (itself k)
 
 put_twice : {X : Type 0} (b : Bool) (x y o : Option X) → cond b y (cond b x o) ≡ cond b y o
 put_twice true x y o = refl
 put_twice false x y o = refl
 
-with_at_again : {X : Type 0} (m : TextMap X) (k : Text) (x y : Option X) → with_at (with_at m k x) k y ≡ with_at m k y
+pub with_at_again : {X : Type 0} (m : TextMap X) (k : Text) (x y : Option X) → with_at (with_at m k x) k y ≡ with_at m k y
 with_at_again m k x y =
     same_map text_total text_antisymmetric _ _ (λ q. get_with_at (with_at m k x) k y q ∙ ap (cond (eq_by_cmp text_cmp q k) y) (get_with_at m k x q)
     ∙ put_twice (eq_by_cmp text_cmp q k) x y (get m q) ∙ sym (get_with_at m k y q))
-
-same_key : (q k : Text) → eq_by_cmp text_cmp q k ≡ true → q ≡ k
-same_key q k e = text_antisymmetric q k (is_equal (text_cmp q k) e)
 
 put_both : {X : Type 0} (a b : Bool) (x y o : Option X) → ¬ ((a ≡ true) × (b ≡ true)) → cond b y (cond a x o) ≡ cond a x (cond b y o)
 put_both true true x y o not_both = absurd (not_both (refl, refl))
@@ -124,7 +121,7 @@ put_both true false x y o not_both = refl
 put_both false true x y o not_both = refl
 put_both false false x y o not_both = refl
 
-with_at_apart : {X : Type 0} (m : TextMap X) (k j : Text) (x y : Option X) → ¬ (k ≡ j) → with_at (with_at m k x) j y ≡ with_at (with_at m j y) k x
+pub with_at_apart : {X : Type 0} (m : TextMap X) (k j : Text) (x y : Option X) → ¬ (k ≡ j) → with_at (with_at m k x) j y ≡ with_at (with_at m j y) k x
 with_at_apart m k j x y apart =
     same_map text_total text_antisymmetric _ _ (λ q. get_with_at (with_at m k x) j y q ∙ ap (cond (eq_by_cmp text_cmp q j) y) (get_with_at m k x q)
     ∙ put_both (eq_by_cmp text_cmp q k) (eq_by_cmp text_cmp q j) x y (get m q) (λ both. apart (sym (same_key q k both.0) ∙ same_key q j both.1))
@@ -155,7 +152,7 @@ steps_independent x y apart =
 
 -- ---- operations
 
-other_classes : (x y : Operation) → ¬ ((class_name x).text ≡ (class_name y).text) → Independent (apply x) (apply y)
+pub other_classes : (x y : Operation) → ¬ ((class_name x).text ≡ (class_name y).text) → Independent (apply x) (apply y)
 other_classes x y apart =
     update_apart (λ t. get t (class_name x).text) (λ held t. with_at t (class_name x).text held) (λ t. get t (class_name y).text) (λ held t. with_at t (class_name y).text held)
     (λ held t. get_elsewhere t (class_name y).text (class_name x).text held (λ same. apart (sym same)))
@@ -169,26 +166,26 @@ one_class k j f g same i =
     subst (λ q. Independent (update (λ t. get t k) (λ held t. with_at t k held) f) (update (λ t. get t q) (λ held t. with_at t q held) g)) same
     (update_same (λ t. get t k) (λ held t. with_at t k held) (λ held t. get_there t k held) (λ a b t. with_at_again t k a b) f g i)
 
-abbrev StepsApart : Change → Change → Type 0
+abbrev pub StepsApart : Change → Change → Type 0
 StepsApart c d = (x y : Step) → Contains (steps_of c) x → Contains (steps_of d) y → ¬ (piece x ≡ piece y)
 
-changes_independent : (c d : Change) → StepsApart c d → Independent (run take_step (steps_of c)) (run take_step (steps_of d))
+pub changes_independent : (c d : Change) → StepsApart c d → Independent (run take_step (steps_of c)) (run take_step (steps_of d))
 changes_independent c d apart =
     run_independent take_step (run take_step (steps_of d)) (steps_of c)
     (each_of _ (steps_of c) (λ x of_c. turned (run take_step (steps_of d)) (take_step x)
     (run_independent take_step (take_step x) (steps_of d) (each_of _ (steps_of d) (λ y of_d. turned (take_step x) (take_step y) (steps_independent x y (apart x y of_c of_d)))))))
 
 -- no thing of the one operation conflicts with one of the other
-abbrev NoConflict : Operation → Operation → Type 0
+abbrev pub NoConflict : Operation → Operation → Type 0
 NoConflict x y = (a b : Thing) → Contains (touched_by x) a → Contains (touched_by y) b → ¬ (conflict a b ≡ true)
 
-same_bytes : (a b : Text) → a ≡ b → bytes_eq a b ≡ true
+pub same_bytes : (a b : Text) → a ≡ b → bytes_eq a b ≡ true
 same_bytes a b same = (bytes_eq-Decides a b).1 same
 
 both_true : (a b : Bool) → a ≡ true → b ≡ true → (a && b) ≡ true
 both_true a b p q = rw (p, q) refl
 
-same_piece_itself : (p : Piece) → same_piece p p ≡ true
+pub same_piece_itself : (p : Piece) → same_piece p p ≡ true
 same_piece_itself superclass = refl
 same_piece_itself (field_named f) = same_bytes f f refl
 same_piece_itself (method_named m) = same_bytes m m refl
@@ -196,26 +193,26 @@ same_piece_itself (method_named m) = same_bytes m m refl
 same_pieces : (p q : Piece) → p ≡ q → same_piece p q ≡ true
 same_pieces p q same = subst (λ r. same_piece p r ≡ true) same (same_piece_itself p)
 
-apart_from_things : (c d : Change) → c.name.text ≡ d.name.text → NoConflict (modifies_class c) (modifies_class d) → StepsApart c d
+pub apart_from_things : (c d : Change) → c.name.text ≡ d.name.text → NoConflict (modifies_class c) (modifies_class d) → StepsApart c d
 apart_from_things c d same clear x y of_c of_d pieces =
     clear (thing_of c.name.text x) (thing_of d.name.text y) (among_others _ _ _ (mapped_within (thing_of c.name.text) (steps_of c) x of_c))
     (among_others _ _ _ (mapped_within (thing_of d.name.text) (steps_of d) y of_d)) (both_true _ _ (same_bytes _ _ same) (same_pieces _ _ pieces))
 
 -- what an operation touches first: the whole class, or the mention of it
-abbrev own_touch : Operation → Touch
+abbrev pub own_touch : Operation → Touch
 own_touch (adds_class c) = whole
 own_touch (modifies_class c) = mention
 own_touch (removes_class c) = whole
 
-abbrev own : Operation → Thing
+abbrev pub own : Operation → Thing
 own x = record { class = (class_name x).text; touch = own_touch x; at = (class_name x).at }
 
-has_own : (x : Operation) → Contains (touched_by x) (own x)
+pub has_own : (x : Operation) → Contains (touched_by x) (own x)
 has_own (adds_class c) = (0, omega arith, refl)
 has_own (modifies_class c) = (0, omega arith, refl)
 has_own (removes_class c) = (0, omega arith, refl)
 
-clash : {G : Type 0} (x y : Operation) → (class_name x).text ≡ (class_name y).text → NoConflict x y → collide (own_touch x) (own_touch y) ≡ true → G
+pub clash : {G : Type 0} (x y : Operation) → (class_name x).text ≡ (class_name y).text → NoConflict x y → collide (own_touch x) (own_touch y) ≡ true → G
 clash x y same clear touches = absurd (clear (own x) (own y) (has_own x) (has_own y) (both_true _ _ (same_bytes _ _ same) touches))
 
 same_class : (x y : Operation) → (class_name x).text ≡ (class_name y).text → NoConflict x y → Independent (apply x) (apply y)
@@ -227,7 +224,7 @@ same_class (modifies_class c) (modifies_class d) same clear =
     one_class c.name.text d.name.text _ _ same
     (inside_independent (run take_step (steps_of c)) (run take_step (steps_of d)) (changes_independent c d (apart_from_things c d same clear)))
 
-operations_independent : (x y : Operation) → NoConflict x y → Independent (apply x) (apply y)
+pub operations_independent : (x y : Operation) → NoConflict x y → Independent (apply x) (apply y)
 operations_independent x y clear =
     either (same_or_not _ (class_name x).text (class_name y).text refl) (λ same. same_class x y same clear) (λ other. other_classes x y other)
 
@@ -250,7 +247,7 @@ operations_pairwise (x ∷ rest) once =
     pairs (each_of _ rest (λ y within. other_classes x y (first_apart (class_name x) (class_name y) (map class_name rest) once (mapped_within class_name rest y within))))
     (operations_pairwise rest (later_once (class_name x) (map class_name rest) once))
 
-members_pairwise : (members : List MemberOperation) → StandOnce (filter_map field_name members) → StandOnce (filter_map method_name members)
+pub members_pairwise : (members : List MemberOperation) → StandOnce (filter_map field_name members) → StandOnce (filter_map method_name members)
     → Pairwise take_step (map does members)
 members_pairwise [] fields methods = no_pairs
 members_pairwise (m ∷ rest) fields methods =

@@ -15,22 +15,23 @@ use Rattle.dj_calculus.proofs.ProductLaw.{product_exactly_if}
 use Rattle.dj_calculus.proofs.FormedProducts.{bodies_formed}
 use Rattle.dj_calculus.proofs.TableLaw.{well_typed_exactly_if}
 
-module _ (source : Source) (expressions : HasExpressions source) (accepted : IsAccepted source) (c : Configuration) where
+module _ (source : Source) (accepted : IsAccepted source) (c : Configuration) where
   -- where there is a product, an instance of a line is one of the product
-  in_product : (has : HasProduct source c) (rule at second : ℕ) → LineRule source c rule at second → TableRule has.table rule at
+  pub in_product : (has : HasProduct source c) (rule at second : ℕ) → LineRule source c rule at second → TableRule has.table rule at
   in_product has rule at second (overlap part i j one other p q within behind at_i at_j least) =
       absurd (no_overlap source accepted c has part i j one other p q within behind at_i at_j least)
   in_product has rule at second (of_operation k part t delta x r p is makes within of breaks) =
       absurd (no_broken_operation source accepted c has k part t delta x r p is makes within of breaks)
   in_product has rule at second (of_product t r p product breaks) = rw (one_product source c t has.table product has.product) at breaks
 
+module _ (source : Source) (expressions : HasExpressions source) (accepted : IsAccepted source) (c : Configuration) where
   counts_in_line : (has : HasProduct source c) (i : Instance) → CountsIn has.table i → Counts source c i
   counts_in_line has i counts =
       record {
         stands = subst (LineRule source c i.rule i.at) (sym counts.stands.one_place) (of_product has.table i.rule i.at has.product counts.stands.breaks);
         clean = λ lower below stands.
             counts.clean (record { rule = lower.rule; at = lower.at; second = lower.at }) below
-            (record { breaks = in_product has lower.rule lower.at lower.second stands; one_place = refl });
+            (record { breaks = in_product source accepted c has lower.rule lower.at lower.second stands; one_place = refl });
       }
 
   typed : (has : HasProduct source c) → ((i : Instance) → ¬ (Counts source c i)) → WellTyped has.table

@@ -1,4 +1,5 @@
--- In a good configuration of an accepted line no rule is broken.
+-- In a good configuration of an accepted line no rule is broken. For clients: runs of steps, orders along parts, what stands once in an
+-- accepted line, and that `Object` is in no table.
 use Rattle.std.proofs.Common.{◌≡◌, ℕ, zero, suc, ◌<◌, Bool, true, false, List, [], ◌∷◌, ◌++◌, map, take, drop, Option, Some, None, slice_get, slice_index_or, Contains, append_assoc, refl, sym, ap, ◌∙◌, subst}
 use Rattle.std.specs.Bool.{if◌then◌else◌}
 use Rattle.std.specs.List.{flat_map}
@@ -28,7 +29,7 @@ use Rattle.dj_calculus.proofs.RuleLemmas.{sound_table}
 
 -- ---- lists
 
-split_at : {X : Type 0} (xs : List X) (k : ℕ) (x : X) → slice_get xs k ≡ Some x → xs ≡ take k xs ++ x ∷ drop (suc k) xs
+pub split_at : {X : Type 0} (xs : List X) (k : ℕ) (x : X) → slice_get xs k ≡ Some x → xs ≡ take k xs ++ x ∷ drop (suc k) xs
 split_at [] k x e = absurd cc
 split_at (y ∷ xs) zero x e = let same : y ≡ x = cc in ap (λ z. z ∷ xs) same
 split_at (y ∷ xs) (suc k) x e = ap (λ zs. y ∷ zs) (split_at xs k x e)
@@ -53,7 +54,7 @@ run_keeps step P xs s s' (and {x = x} {xs = rest} keeps all) e here =
 
 -- ---- orders along parts
 
-along_append : (source : Source) (c : Configuration) (ps qs : List Part) (before later : List Delta) → AllowedAlong source c ps before
+pub along_append : (source : Source) (c : Configuration) (ps qs : List Part) (before later : List Delta) → AllowedAlong source c ps before
     → AllowedAlong source c qs later → AllowedAlong source c (ps ++ qs) (before ++ later)
 along_append source c ps qs before later no_parts more = more
 along_append source c ps qs before later (part_and {parts = rest} {mine = mine} {later = others} permuted along) more =
@@ -86,7 +87,7 @@ module _ (source : Source) (accepted : IsAccepted source) where
       }
 
   -- a delta with a broken operation is undefined
-  broken_delta : (delta : Delta) (t : Table) (x : Operation) (rule at : ℕ) → Contains source.deltas delta → Contains delta.operations x
+  pub broken_delta : (delta : Delta) (t : Table) (x : Operation) (rule at : ℕ) → Contains source.deltas delta → Contains delta.operations x
       → OperationRule t x rule at → apply_delta delta t ≡ None
   broken_delta delta t x rule at within has breaks =
       delta_stops delta t x rule at (classes_once delta within)
@@ -102,7 +103,7 @@ module _ (source : Source) (accepted : IsAccepted source) where
   operation_lacks delta x t u within has applied lacks =
       operation_keeps x t u object (λ same. accepted ReservedClass (class_name x).at (reserved_class x (within_flat (λ d. d.operations) source.deltas delta x within has) same)) applied ∙ lacks
 
-  delta_lacks : (delta : Delta) (t u : Table) → Contains source.deltas delta → apply_delta delta t ≡ Some u → LacksObject t → LacksObject u
+  pub delta_lacks : (delta : Delta) (t u : Table) → Contains source.deltas delta → apply_delta delta t ≡ Some u → LacksObject t → LacksObject u
   delta_lacks delta t u within applied lacks =
       run_keeps apply LacksObject delta.operations t u (each_of _ delta.operations (λ x has v w. operation_lacks delta x v w within has)) applied lacks
 

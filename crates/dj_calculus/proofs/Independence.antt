@@ -1,4 +1,5 @@
--- Steps that are independent: each leaves the other as defined as it was, and they come to the same in either order.
+-- Steps that are independent: each leaves the other as defined as it was, and they come to the same in either order. For clients: runs of
+-- steps in another order (`run_reordered`), and where they are defined (`run_defined`).
 use Rattle.std.proofs.Common.{◌≡◌, ℕ, zero, suc, ◌<◌, List, [], ◌∷◌, Option, Some, None, length, slice_index_or, slice_set, refl, sym, ap, ◌∙◌, arith}
 use Rattle.std.specs.Option.{option_and_then}
 use Rattle.std.specs.List.{swap}
@@ -117,7 +118,7 @@ as_long xs ys (keep x {xs = us} {ys = vs} r) = omega (arith, as_long us vs r)
 as_long xs ys (crossed x y) = refl
 as_long xs ys (joined {ys = ms} p q) = as_long xs ms p ∙ as_long ms ys q
 
-reordered_moves : {X : Type 0} (xs : List X) (moves : List (ℕ × ℕ)) → SwapsInRange (length xs) moves → Reordered xs (apply_swaps xs moves)
+pub reordered_moves : {X : Type 0} (xs : List X) (moves : List (ℕ × ℕ)) → SwapsInRange (length xs) moves → Reordered xs (apply_swaps xs moves)
 reordered_moves xs [] below = same
 reordered_moves xs (m ∷ moves) below =
     let before = reordered_moves xs moves below.2 in
@@ -127,22 +128,22 @@ reordered_moves xs (m ∷ moves) below =
 pub reordered : {X : Type 0} (xs ys : List X) → IsPermutation xs ys → Reordered xs ys
 reordered xs ys p = rw p.is (reordered_moves xs p.moves p.below)
 
-each_reordered : {X : Type 0} (P : X → Type 0) (xs ys : List X) → Reordered xs ys → Each P xs → Each P ys
+pub each_reordered : {X : Type 0} (P : X → Type 0) (xs ys : List X) → Reordered xs ys → Each P xs → Each P ys
 each_reordered P xs ys same all = all
 each_reordered P xs ys (keep x {xs = us} {ys = vs} r) (and here all) = and here (each_reordered P us vs r all)
 each_reordered P xs ys (crossed x y) (and here (and there all)) = and there (and here all)
 each_reordered P xs ys (joined {ys = ms} p q) all = each_reordered P ms ys q (each_reordered P xs ms p all)
 
-then_same : {S : Type 0} (f g : S → Option S) (o : Option S) → ((t : S) → f t ≡ g t) → option_and_then f o ≡ option_and_then g o
+pub then_same : {S : Type 0} (f g : S → Option S) (o : Option S) → ((t : S) → f t ≡ g t) → option_and_then f o ≡ option_and_then g o
 then_same f g None is = refl
 then_same f g (Some t) is = is t
 
-then_then : {S : Type 0} (f g : S → Option S) (o : Option S) → option_and_then g (option_and_then f o) ≡ option_and_then (λ t. option_and_then g (f t)) o
+pub then_then : {S : Type 0} (f g : S → Option S) (o : Option S) → option_and_then g (option_and_then f o) ≡ option_and_then (λ t. option_and_then g (f t)) o
 then_then f g None = refl
 then_then f g (Some t) = refl
 
 module _ {X S : Type 0} (step : X → S → Option S) where
-  pairwise_reordered : (xs ys : List X) → Reordered xs ys → Pairwise step xs → Pairwise step ys
+  pub pairwise_reordered : (xs ys : List X) → Reordered xs ys → Pairwise step xs → Pairwise step ys
   pairwise_reordered xs ys same all = all
   pairwise_reordered xs ys (keep x {xs = us} {ys = vs} r) (pairs is more) = pairs (each_reordered _ us vs r is) (pairwise_reordered us vs r more)
   pairwise_reordered xs ys (crossed x y) (pairs (and i is) (pairs js more)) = pairs (and (turned (step x) (step y) i) js) (pairs is more)

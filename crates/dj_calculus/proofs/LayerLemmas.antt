@@ -40,11 +40,11 @@ none_below_overlap rule low = first_layer (nat_lt rule 2) (nat_lt rule 9) (nat_l
 
 -- ---- rules by their layers
 
-not_first_operation : (t : Table) (operation : Operation) (rule at : ℕ) → OperationRule t operation rule at → layer rule < 2 → ⊥
+pub not_first_operation : (t : Table) (operation : Operation) (rule at : ℕ) → OperationRule t operation rule at → layer rule < 2 → ⊥
 not_first_operation t operation rule at (class_there is) low = omega arith
 not_first_operation t operation rule at _ low = omega arith
 
-of_higher_node : (t : Table) (home : Home) (e : Expr) (rule at : ℕ) → NodeRule t home e rule at → layer rule < 3 → ⊥
+pub of_higher_node : (t : Table) (home : Home) (e : Expr) (rule at : ℕ) → NodeRule t home e rule at → layer rule < 3 → ⊥
 of_higher_node t home e rule at (unknown_variable is) low = omega arith
 of_higher_node t home e rule at _ low = omega arith
 

@@ -21,6 +21,7 @@ pub mod ProductLaw
 pub mod Chains
 pub mod TypingDecided
 pub mod TableLaw
+pub mod ProductsKeep
 pub mod FormedProducts
 pub mod GoodLaw
 pub mod SpelledExpressions

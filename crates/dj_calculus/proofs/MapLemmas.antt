@@ -1,13 +1,18 @@
--- Maps of texts, and what their entries are.
-use Rattle.std.proofs.Common.{◌≡◌, List, [], ◌∷◌, length, Option, Some, None, Bool, true, false, cond, refl, sym, ap, ◌∙◌, arith}
-use Rattle.std.specs.FinMap.{get, insert, remove, entries, put, empty, len-entries, len-empty, get-empty, get-insert, get-remove, entries-insert, IsAntisymmetric, nat_cmp-IsAntisymmetric, slice_cmp-IsAntisymmetric, same_map}
+-- Maps of texts and their entries, for this crate and its clients.
+use Rattle.std.proofs.Common.{◌≡◌, ◌⊎◌, inl, inr, ℕ, suc, ◌<◌, List, [], ◌∷◌, map, length, Option, Some, None, Bool, true, false, cond, ◌&&◌, Contains, refl, sym, ap, ◌∙◌, subst, arith}
+use Rattle.std.specs.Prelude.{T}
+use Rattle.std.specs.Option.{option_map}
+use Rattle.std.proofs.lemmas.Cmp.{tied_itself}
+use Rattle.std.specs.FinMap.{get, insert, remove, entries, entries_sorted, from_entries, from_sorted, put, find, is_sorted, empty, len-entries, len-empty, get-empty, get-insert, get-remove, get-entries, get-from_entries, get-from_sorted, entries-insert, entries-from_sorted, IsAntisymmetric, nat_cmp-IsAntisymmetric, slice_cmp-IsAntisymmetric, same_map, same_entries_map}
 use Rattle.std.specs.Ordering.{eq_by_cmp, is_eq}
 use Rattle.std.specs.declared.cmp.Ordering.{Ordering}
 use Rattle.std.specs.declared.cmp.Ordering.TheVariants.{Less, Equal, Greater}
 use Rattle.dj_names.specs.Texts.{Text}
 use Rattle.std.specs.Cmp.{IsTotalOrder}
 use Rattle.std.specs.Cmp.Lexicographic.{nat_list_cmp_total}
-use Rattle.dj_calculus.specs.Maps.{text_cmp, TextMap}
+use Rattle.std.specs.FinMap.Entries.{below_all}
+use Rattle.std.specs.Ordering.{is_lt}
+use Rattle.dj_calculus.specs.Maps.{text_cmp, TextMap, map_values}
 
 pub text_total : IsTotalOrder text_cmp
 text_total = nat_list_cmp_total
@@ -48,6 +53,9 @@ is_equal Less e = absurd cc
 is_equal Equal e = refl
 is_equal Greater e = absurd cc
 
+pub same_key : (q k : Text) → eq_by_cmp text_cmp q k ≡ true → q ≡ k
+same_key q k e = text_antisymmetric q k (is_equal (text_cmp q k) e)
+
 found_in_one : {X : Type 0} (b : Bool) (q k : Text) (v x : X) → eq_by_cmp text_cmp q k ≡ b → cond b (Some v) None ≡ Some x → (q ≡ k) × (v ≡ x)
 found_in_one true q k v x e is = (text_antisymmetric q k (is_equal (text_cmp q k) e), cc)
 found_in_one false q k v x e is = absurd cc
@@ -55,3 +63,59 @@ found_in_one false q k v x e is = absurd cc
 -- what is found in a map of one entry is that entry
 pub get_of_one : (X : Type 0) (k q : Text) (v x : X) → get (insert (empty {R = text_cmp}) k v) q ≡ Some x → (q ≡ k) × (v ≡ x)
 get_of_one X k q v x is = found_in_one _ q k v x refl (sym (text_get-insert X empty k v q ∙ ap (cond (eq_by_cmp text_cmp q k) (Some v)) (text_get-empty X q)) ∙ is)
+
+-- ---- entries
+
+found_first : {X : Type 0} (b : Bool) (q : Text) (e : Text × X) (x : X) (es : List (Text × X)) → eq_by_cmp text_cmp q e.0 ≡ b → (find text_cmp q es ≡ Some x → Contains es (q, x))
+    → cond b (Some e.1) (find text_cmp q es) ≡ Some x → Contains (e ∷ es) (q, x)
+found_first true q e x es same later is = (0, omega arith, pair (same_key q e.0 same) is)
+  where
+    pair : {X : Type 0} {q k : Text} {v x : X} → q ≡ k → ◌≡◌ {A = Option X} (Some v) (Some x) → ◌≡◌ {A = Text × X} (k, v) (q, x)
+    pair p r = cc
+found_first false q e x es same later is = let there = later is in (suc there.0, omega arith, there.2)
+
+found_in_list : {X : Type 0} (es : List (Text × X)) (q : Text) (x : X) → find text_cmp q es ≡ Some x → Contains es (q, x)
+found_in_list [] q x is = absurd cc
+found_in_list (e ∷ es) q x is = found_first (eq_by_cmp text_cmp q e.0) q e x es refl (found_in_list es q x) is
+
+-- what is found in a map is one of its entries
+pub found_entry : {X : Type 0} (m : TextMap X) (q : Text) (x : X) → get m q ≡ Some x → Contains (entries m) (q, x)
+found_entry m q x is = found_in_list (entries m) q x (sym (get-entries m q) ∙ is)
+
+-- what is found in the map of a list is an element of it
+pub found_in_entries : {X : Type 0} (es : List (Text × X)) (q : Text) (x : X) → get (from_entries {R = text_cmp} es) q ≡ Some x → Contains es (q, x)
+found_in_entries es q x is = found_in_list es q x (sym (get-from_entries text_total es q) ∙ is)
+
+-- ---- the map with each value changed
+
+find_changed : {X Y : Type 0} (f : X → Y) (q : Text) (es : List (Text × X)) → find text_cmp q (map (λ (e : Text × X). (e.0, f e.1)) es) ≡ option_map f (find text_cmp q es)
+find_changed f q [] = refl
+find_changed f q (e ∷ es) = chosen (eq_by_cmp text_cmp q e.0) e.1 _ (find text_cmp q es) (find_changed f q es)
+  where
+    chosen : (b : Bool) (x : _) (o : Option _) (p : Option _) → o ≡ option_map f p → cond b (Some (f x)) o ≡ option_map f (cond b (Some x) p)
+    chosen true x o p e = refl
+    chosen false x o p e = e
+
+pub get_changed : {X Y : Type 0} (f : X → Y) (m : TextMap X) (q : Text) → get (map_values f m) q ≡ option_map f (get m q)
+get_changed f m q = get-from_entries text_total _ q ∙ find_changed f q (entries m) ∙ ap (option_map f) (sym (get-entries m q))
+
+below_changed : {X Y : Type 0} (f : X → Y) (k : Text) (es : List (Text × X)) → below_all text_cmp k (map (λ (e : Text × X). (e.0, f e.1)) es) ≡ below_all text_cmp k es
+below_changed f k [] = refl
+below_changed f k (e ∷ es) = ap (λ b. is_lt (text_cmp k e.0) && b) (below_changed f k es)
+
+sorted_changed : {X Y : Type 0} (f : X → Y) (es : List (Text × X)) → is_sorted text_cmp (map (λ (e : Text × X). (e.0, f e.1)) es) ≡ is_sorted text_cmp es
+sorted_changed f [] = refl
+sorted_changed f (e ∷ es) = rw (below_changed f e.0 es, sorted_changed f es) refl
+
+-- a map made from sorted entries has these
+pub entries_of_sorted : {X : Type 0} (es : List (Text × X)) → T (is_sorted text_cmp es) → entries (from_entries {R = text_cmp} es) ≡ es
+entries_of_sorted es sorted =
+    ap entries (same_map text_total text_antisymmetric (from_entries es) (from_sorted es) (λ q. get-from_entries text_total es q ∙ sym (get-from_sorted text_cmp es q sorted)))
+    ∙ entries-from_sorted text_cmp es sorted
+
+pub entries_changed : {X Y : Type 0} (f : X → Y) (m : TextMap X) → entries (map_values f m) ≡ map (λ (e : Text × X). (e.0, f e.1)) (entries m)
+entries_changed f m = entries_of_sorted _ (subst T (sym (sorted_changed f (entries m))) (entries_sorted m))
+
+-- a map is that of its entries
+pub from_its_entries : {X : Type 0} (m : TextMap X) → from_entries (entries m) ≡ m
+from_its_entries m = same_entries_map _ _ (entries_of_sorted (entries m) (entries_sorted m))

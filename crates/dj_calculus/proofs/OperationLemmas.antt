@@ -21,7 +21,7 @@ use Rattle.dj_calculus.proofs.Members.{no_element, first_or_other, either, kept_
 
 -- ---- maps
 
-other_key : {X : Type 0} (b : Bool) (k q : Text) (x y : X) → eq_by_cmp text_cmp q k ≡ b → ¬ (k ≡ q) → cond b x y ≡ y
+pub other_key : {X : Type 0} (b : Bool) (k q : Text) (x y : X) → eq_by_cmp text_cmp q k ≡ b → ¬ (k ≡ q) → cond b x y ≡ y
 other_key true k q x y e apart = absurd (apart (sym (text_antisymmetric q k (is_equal (text_cmp q k) e))))
 other_key false k q x y e apart = refl
 
@@ -33,7 +33,7 @@ get_elsewhere {X} m k q (Some x) apart = text_get-insert X m k x q ∙ other_key
 -- ---- one step after the other
 
 -- the element stands in the list, behind elements that are apart from it
-data Reaches {X : Type 0} (Apart : X → X → Type 0) (x : X) : List X → Type 0 where
+pub data Reaches {X : Type 0} (Apart : X → X → Type 0) (x : X) : List X → Type 0 where
   here : {xs : List X} → Reaches Apart x (x ∷ xs)
   later : {y : X} {xs : List X} → Apart y x → Reaches Apart x xs → Reaches Apart x (y ∷ xs)
 
@@ -44,7 +44,7 @@ after_step next (Some s) rest = rest s refl
 -- a list of steps stops where one of them can't be taken, and steps that are apart from it don't change that
 module _ {X S : Type 0} (step : X → S → Option S) (Bad : X → S → Type 0) (Apart : X → X → Type 0) (stops : (x : X) (s : S) → Bad x s → step x s ≡ None)
     (stays : (y x : X) (s s' : S) → Apart y x → step y s ≡ Some s' → Bad x s → Bad x s') where
-  run_stops : (x : X) (xs : List X) (s : S) → Reaches Apart x xs → Bad x s → run step xs s ≡ None
+  pub run_stops : (x : X) (xs : List X) (s : S) → Reaches Apart x xs → Bad x s → run step xs s ≡ None
   run_stops x xs s (here {xs = rest}) bad = ap (option_and_then (run step rest)) (stops x s bad)
   run_stops x xs s (later {y = y} {xs = rest} apart reaches) bad =
       after_step (run step rest) (step y s) (λ s' e. run_stops x rest s' reaches (stays y x s s' apart e bad))
@@ -55,10 +55,10 @@ abbrev ApartSteps : Step → Step → Type 0
 ApartSteps y x = ¬ (piece y ≡ piece x)
 
 -- the step can't be taken on the class
-abbrev BadStep : Step → ClassEntry → Type 0
+abbrev pub BadStep : Step → ClassEntry → Type 0
 BadStep x c = changes x (look (piece x) c) ≡ None
 
-bad_step_stops : (x : Step) (c : ClassEntry) → BadStep x c → take_step x c ≡ None
+pub bad_step_stops : (x : Step) (c : ClassEntry) → BadStep x c → take_step x c ≡ None
 bad_step_stops x c bad = ap (option_map (λ held. write (piece x) held c)) bad
 
 pub look_elsewhere : (p q : Piece) (held : Held q) (c : ClassEntry) → ¬ (q ≡ p) → look p (write q held c) ≡ look p c
@@ -172,7 +172,7 @@ bad_operation_stays y x t t' apart applied bad =
     let held = mapped (λ held. with_at t (class_name y).text held) (class_changes y (get t (class_name y).text)) t' applied in
     ap (class_changes x) (ap (λ u. get u (class_name x).text) (sym held.2) ∙ get_elsewhere t (class_name y).text (class_name x).text held.0 apart) ∙ bad
 
-operations_reach : (operations : List Operation) (x : Operation) → StandOnce (map class_name operations) → Contains operations x → Reaches ApartOperations x operations
+pub operations_reach : (operations : List Operation) (x : Operation) → StandOnce (map class_name operations) → Contains operations x → Reaches ApartOperations x operations
 operations_reach [] x once within = no_element x within
 operations_reach (y ∷ rest) x once within =
     either (first_or_other y x rest within) (λ same. subst (λ z. Reaches ApartOperations z (y ∷ rest)) same here)

@@ -47,13 +47,13 @@ module _ (one other : Delta) (no_least : (p q : ℕ) → ¬ (LeastConflict one o
   none_below (suc n) x y low at =
       either (earlier_or_same x n low) (λ before. none_below n x y before at) (λ same. none_at n (suc y) (none_below n) y (omega arith) (rw same at at))
 
-  no_conflict : Disjoint one other
+  pub no_conflict : Disjoint one other
   no_conflict found = none_below (suc found.0) found.0 found.1.0 (omega arith) found.1.1
 
 -- ---- the law
 
 module _ (source : Source) (accepted : IsAccepted source) (c : Configuration) where
-  nothing_counts : HasProduct source c → (rule at second : ℕ) → LineRule source c rule at second → layer rule ≤ 2 → ⊥
+  pub nothing_counts : HasProduct source c → (rule at second : ℕ) → LineRule source c rule at second → layer rule ≤ 2 → ⊥
   nothing_counts has rule at second (overlap part i j one other p q within behind at_i at_j least) low =
       no_overlap source accepted c has part i j one other p q within behind at_i at_j least
   nothing_counts has rule at second (of_operation k part t delta x r p is makes within of breaks) low =

@@ -1,5 +1,7 @@
--- What the grammar spells are expressions.
-use Rattle.std.proofs.Common.{◌≡◌, List, [], ◌∷◌, ◌++◌, Option, Some, Contains, sym, ap, subst, arith}
+-- What the grammar spells are expressions. For clients: `spelled_expressions`, `spelled_java` and `laid_expressions`.
+use Rattle.std.proofs.Common.{◌≡◌, ◌∙◌, inl, inr, List, [], ◌∷◌, ◌++◌, Option, Some, Contains, sym, ap, subst, arith}
+use Rattle.std.proofs.lemmas.Bool.{false≢true, cases_Bool}
+use Rattle.std.proofs.lemmas.Grind.{not_there}
 use Rattle.std.specs.List.{flat_map, filter_map}
 use Rattle.dj_lexer.specs.Symbols.{Symbol}
 use Rattle.dj_lexer.specs.declared.token.Dialect.{Dialect}
@@ -12,15 +14,14 @@ use Rattle.dj_tree.specs.Repeats as repeats
 use Rattle.dj_tree.specs.Repeats.{Many}
 use Rattle.dj_tree.specs.ClassGrammar as classes
 use Rattle.dj_tree.specs.ClassGrammar.{SpellsMethod, Member, field_member, method_member, SpellsMember, methods_of, SpellsClass}
-use Rattle.dj_tree.specs.Spells.{SpellsJava}
+use Rattle.dj_tree.specs.Spells.{Laid, SpellsJava}
 use Rattle.dj_tree.specs.LineGrammar as lines
 use Rattle.dj_tree.specs.LineGrammar.{adds_member, SpellsMemberOperation, SpellsOperation, SpellsDelta, SpellsSource}
 use Rattle.dj_calculus.specs.Contents.{operations_of, classes_of, changes_of, added_by, change_by, method_added, method_modified, new_methods, modified_methods}
-use Rattle.dj_calculus.specs.Expressions.{IsExpression, HasExpressions, HaveExpressions}
+use Rattle.dj_calculus.specs.Expressions.{is_expression, IsExpression, HasExpressions, HaveExpressions}
 use Rattle.dj_calculus.proofs.ExpressionForms.{Formed, a_variable, a_this, a_null, a_new, a_cast, a_field, an_assignment, a_call, an_original, EachFormed, none_formed, formed_and, is_formed}
-use Rattle.dj_calculus.specs.Things.{does}
+use Rattle.dj_calculus.specs.Things.{Step, extends, does}
 use Rattle.dj_calculus.proofs.Members.{no_element, first_or_other, among_others, either, filtered_from, in_front_or_behind, from_flat}
-use Rattle.dj_calculus.proofs.FormedProducts.{FormedStep, FormedOperation}
 
 are_more : (es : List Expr) (e : Expr) → EachFormed (trees_of es) → Formed e → EachFormed (trees_of (es ++ e ∷ []))
 are_more [] e are is = formed_and is none_formed
@@ -77,6 +78,20 @@ method_among (method_member x ∷ rest) m within =
 spelled_class : (d : Dialect) (s : List Symbol) (c : Class) → SpellsClass d s c → (m : Method) → Contains c.methods m → IsExpression m.body
 spelled_class d s c (classes.class {body = body} {members = members} at opening closing name is_name extension many) m within =
     each_spelled (SpellsMember d) FormedMember (spelled_member d) body members many (method_member m) (method_among members m within)
+
+-- what a step, and what an operation, declares
+abbrev FormedStep : Step → Type 0
+FormedStep (extends parent) = Unit {0}
+FormedStep (does (adds_field f)) = Unit {0}
+FormedStep (does (adds_method m)) = IsExpression m.body
+FormedStep (does (modifies_method m)) = IsExpression m.body
+FormedStep (does (removes_field f)) = Unit {0}
+FormedStep (does (removes_method m)) = Unit {0}
+
+abbrev FormedOperation : Operation → Type 0
+FormedOperation (adds_class c) = (m : Method) → Contains c.methods m → IsExpression m.body
+FormedOperation (modifies_class c) = (m : MemberOperation) → Contains c.members m → FormedStep (does m)
+FormedOperation (removes_class c) = Unit {0}
 
 added_member : (m : Member) → FormedMember m → FormedStep (does (adds_member m))
 added_member (field_member f) is = tt
@@ -164,3 +179,11 @@ spelled_expressions s source spells = has_expressions source (spelled_deltas s s
 pub spelled_java : (s : List Symbol) (classes : List Class) → SpellsJava s classes → HaveExpressions classes
 spelled_java s classes spells c m within has =
     each_spelled (SpellsClass Java) (λ x. (y : Method) → Contains x.methods y → IsExpression y.body) (spelled_class Java) s classes spells c within m has
+
+-- that some tokens spell the source is enough, whichever they are
+pub laid_expressions : (source : Source) → ∥ Laid source ∥₁ → HasExpressions source
+laid_expressions source laid m within =
+    elim (cases_Bool (is_expression m.body)) [
+      | inl is ↦ is
+      | inr not ↦ absurd (not_there laid (λ it. false≢true (sym not ∙ spelled_expressions it.tokens source it.spelled m within)))
+    ]

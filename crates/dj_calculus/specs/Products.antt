@@ -1,5 +1,5 @@
 -- Allowed orders of the active deltas, and the product of a configuration.
-use Rattle.std.specs.Prelude.{◌≡◌, ℕ, ◌≤◌, List, [], ◌∷◌, ◌++◌, slice_get, Option, Some, IsNone}
+use Rattle.std.specs.Prelude.{◌≡◌, ℕ, ◌≤◌, List, [], ◌∷◌, ◌++◌, take, slice_get, Option, Some, IsNone}
 use Rattle.std.specs.List.{flat_map, filter_map}
 use Rattle.std.specs.List.Sorted.{IsPermutation}
 use Rattle.dj_names.specs.Texts.{Text}
@@ -30,6 +30,10 @@ fold_deltas order = run apply_delta order empty_table
 -- is more than sameness but for places. The two agree where the active deltas of each part are disjoint.
 pub record Makes (source : Source) (c : Configuration) (parts : List Part) (t : Table) : Type 0 where
   pub each : (order : List Delta) → AllowedAlong source c parts order → fold_deltas order ≡ Some t
+
+-- the table after the first k parts of the chain, in the default order
+abbrev pub table_after : Source → Configuration → ℕ → Option Table
+table_after source c k = fold_deltas (flat_map (active source c) (take k (chain source)))
 
 -- the product of the configuration
 abbrev pub Product : Source → Configuration → Table → Type 0

@@ -8,6 +8,7 @@ ghost use Rattle.dj_tree.specs.Spells.{Laid};
 ghost use Rattle.dj_tree.specs.WellFormed.{IsKnown, IsWellFormed};
 ghost use Rattle.dj_calculus.specs.Accepted.{IsAccepted};
 ghost use Rattle.dj_calculus.specs.Configurations.{is_named};
+ghost use Rattle.dj_calculus.specs.Expressions.{HasExpressions};
 ghost use Rattle.dj_line.specs.Naming.{IsNamedAt};
 ghost use Rattle.dj_line.specs.Tables.{IsWellFormed-prop, AreTables, AreTables-prop};
 
@@ -49,12 +50,13 @@ impl Line {
     ghost use Rattle.dj_line.specs.Lines.{plain_line};
     ghost use Rattle.dj_line.specs.Placing.{numbers_along, StandsIn, formula_of};
 
-    /// The source, which is accepted.
+    /// The source, which is accepted. All its bodies are expressions.
     pub fn source(&self) -> &Source
         ensures line { plain_source result.now ≡ plain_line self.now }
         ensures well_formed { IsWellFormed result.now }
         ensures accepted { IsAccepted (plain_line self.now) }
         ensures laid { ∥ Laid (plain_line self.now) ∥₁ }
+        ensures expressions { HasExpressions (plain_line self.now) }
     {
         &self.source
     }
