@@ -1,10 +1,11 @@
 -- Maps of texts and their entries, for this crate and its clients.
-use Rattle.std.proofs.Common.{◌≡◌, ◌⊎◌, inl, inr, ℕ, suc, ◌<◌, List, [], ◌∷◌, map, length, Option, Some, None, Bool, true, false, cond, ◌&&◌, Contains, refl, sym, ap, ◌∙◌, subst, arith}
+use Rattle.std.proofs.Common.{◌≡◌, ◌⊎◌, inl, inr, ℕ, zero, suc, ◌<◌, List, [], ◌∷◌, map, length, Option, Some, None, Bool, true, false, cond, ◌&&◌, Contains, refl, sym, ap, ◌∙◌, subst, arith}
 use Rattle.std.specs.Prelude.{T}
 use Rattle.std.specs.Option.{option_map}
 use Rattle.std.proofs.lemmas.Cmp.{tied_itself}
 use Rattle.std.specs.FinMap.{get, insert, remove, entries, entries_sorted, from_entries, from_sorted, put, find, is_sorted, empty, len-entries, len-empty, get-empty, get-insert, get-remove, get-entries, get-from_entries, get-from_sorted, entries-insert, entries-from_sorted, IsAntisymmetric, nat_cmp-IsAntisymmetric, slice_cmp-IsAntisymmetric, same_map, same_entries_map}
 use Rattle.std.specs.Ordering.{eq_by_cmp, is_eq}
+use Rattle.std.specs.Cmp.{eq_by_cmp_equiv}
 use Rattle.std.specs.declared.cmp.Ordering.{Ordering}
 use Rattle.std.specs.declared.cmp.Ordering.TheVariants.{Less, Equal, Greater}
 use Rattle.dj_names.specs.Texts.{Text}
@@ -119,3 +120,36 @@ entries_changed f m = entries_of_sorted _ (subst T (sym (sorted_changed f (entri
 -- a map is that of its entries
 pub from_its_entries : {X : Type 0} (m : TextMap X) → from_entries (entries m) ≡ m
 from_its_entries m = same_entries_map _ _ (entries_of_sorted (entries m) (entries_sorted m))
+
+-- ---- an entry of a map is found
+
+t_first : (a b : Bool) → T (a && b) → T a
+t_first true b h = tt
+t_first false b h = absurd h
+
+t_second : (a b : Bool) → T (a && b) → T b
+t_second true b h = h
+t_second false b h = absurd h
+
+below_each : {X : Type 0} (k : Text) (es : List (Text × X)) (e : Text × X) → T (below_all text_cmp k es) → Contains es e → T (is_lt (text_cmp k e.0))
+below_each k [] e below (i, low, is) = absurd (omega arith)
+below_each k (f ∷ es) e below (zero, low, is) = subst (λ x. T (is_lt (text_cmp k x.0))) is (t_first _ (below_all text_cmp k es) below)
+below_each k (f ∷ es) e below (suc i, low, is) = below_each k es e (t_second (is_lt (text_cmp k f.0)) _ below) (i, omega arith, is)
+
+not_itself : (k q : Text) → q ≡ k → T (is_lt (text_cmp k q)) → ⊥
+not_itself k q same less = subst (λ r. T (is_lt r)) (ap (text_cmp k) same ∙ tied_itself text_total k) less
+
+behind_first : {X : Type 0} (b : Bool) (q k : Text) (v : X) (x : X) (rest : Option X) → eq_by_cmp text_cmp q k ≡ b → T (is_lt (text_cmp k q)) → rest ≡ Some x → cond b (Some v) rest ≡ Some x
+behind_first true q k v x rest same less e = absurd (not_itself k q (same_key q k same) less)
+behind_first false q k v x rest same less e = e
+
+found_sorted : {X : Type 0} (es : List (Text × X)) (q : Text) (x : X) → T (is_sorted text_cmp es) → Contains es (q, x) → find text_cmp q es ≡ Some x
+found_sorted [] q x sorted (i, low, is) = absurd (omega arith)
+found_sorted (e ∷ es) q x sorted (zero, low, is) =
+    subst (λ f. cond (eq_by_cmp text_cmp q f.0) (Some f.1) (find text_cmp q es) ≡ Some x) (sym is) (rw ((eq_by_cmp_equiv text_total).refl q) refl)
+found_sorted (e ∷ es) q x sorted (suc i, low, is) =
+    behind_first (eq_by_cmp text_cmp q e.0) q e.0 e.1 x (find text_cmp q es) refl (below_each e.0 es (q, x) (t_first _ (is_sorted text_cmp es) sorted) (i, omega arith, is))
+    (found_sorted es q x (t_second (below_all text_cmp e.0 es) _ sorted) (i, omega arith, is))
+
+pub entry_found : {X : Type 0} (m : TextMap X) (q : Text) (x : X) → Contains (entries m) (q, x) → get m q ≡ Some x
+entry_found m q x has = get-entries m q ∙ found_sorted (entries m) q x (entries_sorted m) has
