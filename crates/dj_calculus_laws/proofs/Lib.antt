@@ -1,0 +1,4 @@
+pub mod TableProofs
+pub mod OrderProofs
+pub mod RuleProofs
+pub mod OnceProofs

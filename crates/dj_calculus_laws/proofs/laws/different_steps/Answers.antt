@@ -1,0 +1,8 @@
+use Rattle.dj_calculus_laws.proofs.OnceProofs.{classes_apart, steps_apart}
+use Rattle.dj_calculus_laws.proofs.laws.different_steps.Goals as goal
+
+pub returns-clause-classes : goal.returns-clause-classes
+returns-clause-classes c = classes_apart
+
+pub returns-clause-steps : goal.returns-clause-steps
+returns-clause-steps c = steps_apart

@@ -1,0 +1,4 @@
+pub mod TableLaws
+pub mod OrderLaws
+pub mod RuleLaws
+pub mod OnceLaws

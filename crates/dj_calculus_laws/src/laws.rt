@@ -1,0 +1,51 @@
+//! Laws of tables, orders, rules and sources.
+ghost use Rattle.dj_calculus_laws.specs.TableLaws.{EmptyIsTable, ProductIsTable, ProductHasDistinct, ProductBeginsPlainly, JavaIsTable, JavaHasDistinct, FlatIsTable, FlatHasDistinct};
+ghost use Rattle.dj_calculus_laws.specs.OrderLaws.{OrdersAgree, OneOrderMakes, TableAfterMakes, TableAfterNext};
+ghost use Rattle.dj_calculus_laws.specs.RuleLaws.{OperationRules, TableRulesRange, NodeRules, UndefinedExactlyIf};
+ghost use Rattle.dj_calculus_laws.specs.OnceLaws.{ClassesOnce, StepsTouchDifferent};
+
+/// The empty table is one that programs have; so are products, the tables of Java files, and flat tables of such tables.
+pub fn tables_are_tables()
+    ensures empty { EmptyIsTable }
+    ensures product { ProductIsTable }
+    ensures java { JavaIsTable }
+    ensures flat { FlatIsTable }
+{}
+
+/// They have no parameter twice.
+pub fn distinct_parameters()
+    ensures product { ProductHasDistinct }
+    ensures java { JavaHasDistinct }
+    ensures flat { FlatHasDistinct }
+{}
+
+/// In a product the oldest body of each method says no `original`.
+pub fn flattenable_products()
+    ensures { ProductBeginsPlainly }
+{}
+
+/// Where the active deltas of each part are disjoint, allowed orders agree, so one of them tells what the parts make.
+pub fn disjoint_orders()
+    ensures orders_agree { OrdersAgree }
+    ensures one_order_makes { OneOrderMakes }
+    ensures table_after { TableAfterMakes }
+    ensures next { TableAfterNext }
+{}
+
+/// Operations break rules 2 to 8, tables 9 to 23, and nodes 14 to 23 but 21.
+pub fn ranges_of_rules()
+    ensures operations { OperationRules }
+    ensures tables { TableRulesRange }
+    ensures nodes { NodeRules }
+{}
+
+/// An operation of an accepted source is undefined exactly where it breaks a rule.
+pub fn undefined_exactly_if()
+    ensures { UndefinedExactlyIf }
+{}
+
+/// In an accepted source the operations of a delta are on different classes, and the steps of a change touch different pieces.
+pub fn different_steps()
+    ensures classes { ClassesOnce }
+    ensures steps { StepsTouchDifferent }
+{}

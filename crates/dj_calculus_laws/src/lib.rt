@@ -1,0 +1,9 @@
+//! Laws of the definitions in `dj_calculus` that the layers above stand on.
+#![tactic(auto)]
+
+mod laws;
+
+pub use laws::{
+    different_steps, disjoint_orders, distinct_parameters, flattenable_products, ranges_of_rules,
+    tables_are_tables, undefined_exactly_if,
+};
