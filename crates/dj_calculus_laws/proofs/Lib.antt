@@ -2,3 +2,5 @@ pub mod TableProofs
 pub mod OrderProofs
 pub mod RuleProofs
 pub mod OnceProofs
+pub mod SameTexts
+pub mod SameTables

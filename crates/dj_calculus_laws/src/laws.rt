@@ -2,6 +2,7 @@
 ghost use Rattle.dj_calculus_laws.specs.TableLaws.{EmptyIsTable, ProductIsTable, ProductHasDistinct, ProductBeginsPlainly, JavaIsTable, JavaHasDistinct, FlatIsTable, FlatHasDistinct};
 ghost use Rattle.dj_calculus_laws.specs.OrderLaws.{OrdersAgree, OneOrderMakes, TableAfterMakes, TableAfterNext};
 ghost use Rattle.dj_calculus_laws.specs.RuleLaws.{OperationRules, TableRulesRange, NodeRules, UndefinedExactlyIf};
+ghost use Rattle.dj_calculus_laws.specs.SameTableLaws.{SameText, TypedTogether, SameHeadings};
 ghost use Rattle.dj_calculus_laws.specs.OnceLaws.{ClassesOnce, StepsTouchDifferent};
 
 /// The empty table is one that programs have; so are products, the tables of Java files, and flat tables of such tables.
@@ -48,4 +49,11 @@ pub fn undefined_exactly_if()
 pub fn different_steps()
     ensures classes { ClassesOnce }
     ensures steps { StepsTouchDifferent }
+{}
+
+/// Tables that are the same but for places have the same canonical text and are well typed together: no place matters for either.
+pub fn places_never_matter()
+    ensures text { SameText }
+    ensures typing { TypedTogether }
+    ensures signatures { SameHeadings }
 {}
