@@ -4,3 +4,4 @@ pub mod RuleProofs
 pub mod OnceProofs
 pub mod SameTexts
 pub mod SameTables
+pub mod SpelledNames

@@ -10,7 +10,7 @@ use Rattle.dj_calculus.proofs.Members.{StandOnce, later_once, first_apart, mappe
 use Rattle.dj_calculus.proofs.OperationLemmas.{apart_members, named, later_option, not_superclass}
 use Rattle.dj_calculus.proofs.GoodLemmas.{classes_once, members_once}
 
-same_default : {X : Type 0} (xs : List X) (k : ℕ) (d e : X) → k < length xs → slice_index_or xs k d ≡ slice_index_or xs k e
+pub same_default : {X : Type 0} (xs : List X) (k : ℕ) (d e : X) → k < length xs → slice_index_or xs k d ≡ slice_index_or xs k e
 same_default [] k d e low = absurd (omega arith)
 same_default (x ∷ xs) zero d e low = refl
 same_default (x ∷ xs) (suc k) d e low = same_default xs k d e (omega arith)
