@@ -5,3 +5,4 @@ pub mod OnceProofs
 pub mod SameTexts
 pub mod SameTables
 pub mod SpelledNames
+pub mod LineWords

@@ -60,9 +60,9 @@ types_by_text (x ∷ xs) (y ∷ ys) e =
 pub same_headings : (s t : Signature) → IsTrue (same_signature s t) ↔ (heading_of s ≡ heading_of t)
 same_headings s t = (
   λ e. let parts = both_of (same_types s.parameters t.parameters) (bytes_eq s.result.text t.result.text) e in
-  ap₂ (λ a b. record { parameters = a; result = b }) (same_text_types s.parameters t.parameters parts.0) ((bytes_eq-Decides s.result.text t.result.text).0 parts.1),
+      ap₂ (λ a b. record { parameters = a; result = b }) (same_text_types s.parameters t.parameters parts.0) ((bytes_eq-Decides s.result.text t.result.text).0 parts.1),
   λ e. both (same_types s.parameters t.parameters) (bytes_eq s.result.text t.result.text) (types_by_text s.parameters t.parameters (ap (λ h. h.parameters) e))
-  ((bytes_eq-Decides s.result.text t.result.text).1 (ap (λ h. h.result) e)),
+      ((bytes_eq-Decides s.result.text t.result.text).1 (ap (λ h. h.result) e)),
 )
 
 texts_unplaced : (xs : List Spot) → texts_of (map unplaced xs) ≡ texts_of xs
@@ -213,7 +213,7 @@ module _ (t u : Table) (alike : SameTable t u) where
         let above = nearest_in_other e.parent.text d x more in (
           above.0,
           inherited other.1 (unmapped see (member other.0) (sees other.0 e other.2 ∙ ap (option_map see) lacks))
-          (subst (λ p. Nearest u member p d above.0) (sym (ap (λ z. z.parent.text) other.2)) above.1),
+              (subst (λ p. Nearest u member p d above.0) (sym (ap (λ z. z.parent.text) other.2)) above.1),
           above.2,
         )
 

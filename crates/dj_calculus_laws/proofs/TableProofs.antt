@@ -110,7 +110,7 @@ any_first : {X : Type 0} (p : X → Bool) (b : Bool) (x : X) (xs : List X) → p
 any_first p true x xs is rest e = (x, (0, omega arith, refl), is)
 any_first p false x xs is rest e = let found = rest e in (found.0, among_others x found.0 xs found.1, found.2)
 
-any_found : {X : Type 0} (p : X → Bool) (xs : List X) → list_any p xs ≡ true → (x : X) × Contains xs x × (p x ≡ true)
+pub any_found : {X : Type 0} (p : X → Bool) (xs : List X) → list_any p xs ≡ true → (x : X) × Contains xs x × (p x ≡ true)
 any_found p [] e = absurd cc
 any_found p (x ∷ xs) e = any_first p (p x) x xs refl (any_found p xs) e
 

@@ -1,5 +1,5 @@
 //! Laws of tables, orders, rules and sources.
-ghost use Rattle.dj_calculus_laws.specs.TableLaws.{EmptyIsTable, ProductIsTable, ProductHasDistinct, ProductBeginsPlainly, JavaIsTable, JavaHasDistinct, FlatIsTable, FlatHasDistinct};
+ghost use Rattle.dj_calculus_laws.specs.TableLaws.{EmptyIsTable, ProductIsTable, ProductHasDistinct, ProductBeginsPlainly, ProductHasNoDollar, ProductIsFlattenable, JavaIsTable, JavaHasDistinct, FlatIsTable, FlatHasDistinct};
 ghost use Rattle.dj_calculus_laws.specs.OrderLaws.{OrdersAgree, OneOrderMakes, TableAfterMakes, TableAfterNext};
 ghost use Rattle.dj_calculus_laws.specs.RuleLaws.{OperationRules, TableRulesRange, NodeRules, UndefinedExactlyIf};
 ghost use Rattle.dj_calculus_laws.specs.SameTableLaws.{SameText, TypedTogether, SameHeadings};
@@ -20,9 +20,12 @@ pub fn distinct_parameters()
     ensures flat { FlatHasDistinct }
 {}
 
-/// In a product the oldest body of each method says no `original`.
+/// In a product of an accepted source the oldest body of each method says no `original`. Where tokens spell the source, no name has
+/// `$`, and the flat table is defined.
 pub fn flattenable_products()
-    ensures { ProductBeginsPlainly }
+    ensures oldest_bodies { ProductBeginsPlainly }
+    ensures no_dollar { ProductHasNoDollar }
+    ensures flattenable { ProductIsFlattenable }
 {}
 
 /// Where the active deltas of each part are disjoint, allowed orders agree, so one of them tells what the parts make.
