@@ -1,8 +1,8 @@
 -- Expressions by the forms of their roots, for recursions over them, in this crate and in its clients: `formed` and `is_formed` say that
 -- these are the trees that pass the test.
-use Rattle.std.proofs.Common.{◌≡◌, ℕ, Bool, true, false, ◌&&◌, refl, arith}
-use Rattle.arena_walk.specs.Tree.{Trees, branch, no_trees, tree_and}
-use Rattle.dj_tree.specs.Trees.{Spot, Expr, ExprForm, VariableForm, ThisForm, NullForm, FieldForm, CallForm, NewForm, CastForm, AssignForm, OriginalForm, variable, this_at, null_at, field_of, new_of, cast_to, assignment}
+use Rattle.std.proofs.Common.{◌≡◌, ℕ, Bool, true, false, ◌&&◌, refl}
+use Rattle.arena_walk.specs.Tree.{branch, no_trees, tree_and}
+use Rattle.dj_tree.specs.Trees.{Spot, Expr, VariableForm, ThisForm, NullForm, FieldForm, CallForm, NewForm, CastForm, AssignForm, OriginalForm, variable, this_at, null_at, field_of, new_of, cast_to, assignment}
 use Rattle.dj_calculus.specs.Typing.{Arguments, call_with}
 use Rattle.dj_calculus.specs.Expressions.{is_expression, are_expressions, IsExpression}
 

@@ -2,14 +2,13 @@
 use Rattle.std.proofs.Common.{◌≡◌, Bool, true, false, List, [], ◌∷◌, ◌++◌, Option, Some, None, Contains, refl, sym, ap, subst}
 use Rattle.std.specs.Bool.{if◌then◌else◌}
 use Rattle.std.proofs.lemmas.List.Elements.{Contains-append_left, Contains-append_right}
-use Rattle.dj_names.specs.Texts.{Text}
-use Rattle.dj_tree.specs.Trees.{Spot, Expr, Method, MemberOperation, Source}
+use Rattle.dj_tree.specs.Trees.{Expr, Method, Source}
 use Rattle.dj_calculus.specs.Configurations.{Configuration}
 use Rattle.dj_calculus.specs.Parts.{chain}
 use Rattle.dj_calculus.specs.Contents.{new_methods, modified_methods}
 use Rattle.dj_calculus.specs.Accepted.{IsAccepted}
-use Rattle.dj_calculus.specs.Tables.{FieldEntry, Body, MethodEntry, Table}
-use Rattle.dj_calculus.specs.Entries.{signature_of, body_of, method_entry, same_signature, says_original}
+use Rattle.dj_calculus.specs.Tables.{Body, MethodEntry, Table}
+use Rattle.dj_calculus.specs.Entries.{signature_of, body_of, same_signature, says_original}
 use Rattle.dj_calculus.specs.Operations.{modify}
 use Rattle.dj_calculus.specs.Products.{Product}
 use Rattle.dj_calculus.specs.Typing.{Home, IsBody, kept}

@@ -8,7 +8,7 @@ pub mod MapLemmas
 pub mod TwoOrders
 pub mod KeptVersions
 pub mod MissingField
-pub mod NullMembers
+pub mod SmallTables
 pub mod FaultLemmas
 pub mod RuleLemmas
 pub mod Members

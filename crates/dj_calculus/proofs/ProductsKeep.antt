@@ -1,7 +1,7 @@
 -- What products keep, for this crate and its clients. Take predicates of class names, superclasses, fields under their names and methods
 -- under theirs. Where they hold of all that a source declares (`Declares`), and of a method once it is modified if they held before, they
 -- hold of all in what its parts make (`made_is`).
-use Rattle.std.proofs.Common.{◌≡◌, Bool, true, false, cond, List, [], ◌∷◌, ◌++◌, map, Option, Some, None, Contains, refl, sym, ap, ◌∙◌, subst, arith}
+use Rattle.std.proofs.Common.{◌≡◌, Bool, true, false, cond, List, [], ◌∷◌, map, Option, Some, None, Contains, refl, sym, ap, ◌∙◌, subst, arith}
 use Rattle.std.specs.List.{flat_map, filter_map}
 use Rattle.std.specs.Ordering.{eq_by_cmp}
 use Rattle.std.specs.FinMap.{get, empty, from_entries}
@@ -20,7 +20,7 @@ use Rattle.dj_calculus.specs.Entries.{field_entry, method_entry, superclass_of, 
 use Rattle.dj_calculus.specs.Operations.{run, enter, leave, inside, look, write, modify, changes, take_step, class_changes, apply, apply_delta}
 use Rattle.dj_calculus.specs.Products.{Makes}
 use Rattle.dj_calculus.proofs.MapLemmas.{text_get-empty, same_key}
-use Rattle.dj_calculus.proofs.Members.{among_others, either, first_or_other, in_front_or_behind, mapped_from, no_element, only_one, kept_by, within_flat, Each, none, and, each_of, each_append, mapped}
+use Rattle.dj_calculus.proofs.Members.{among_others, either, in_front_or_behind, mapped_from, no_element, only_one, kept_by, within_flat, Each, none, each_of, each_append, mapped}
 use Rattle.dj_calculus.proofs.DisjointDeltas.{get_with_at}
 use Rattle.dj_calculus.proofs.ProductLemmas.{default_along}
 use Rattle.dj_calculus.proofs.GoodLemmas.{run_keeps, declared}

@@ -4,7 +4,7 @@ use Rattle.std.proofs.Common.{◌≡◌, inl, inr, ℕ, zero, suc, List, [], ◌
 use Rattle.std.specs.List.{All}
 use Rattle.dj_names.specs.Texts.{Text}
 use Rattle.arena_walk.specs.Tree.{list_of, children_of}
-use Rattle.dj_tree.specs.Trees.{Spot, Expr}
+use Rattle.dj_tree.specs.Trees.{Expr}
 use Rattle.dj_calculus.specs.Tables.{ClassEntry, Table, Heading, heading_of}
 use Rattle.dj_calculus.specs.Subclasses.{Nearest, own, inherited, Kind, null_kind, class_kind, Below, FieldOf, MethodOf}
 use Rattle.dj_calculus.specs.Typing.{Home, Arguments, Types, AllBelow, none_below, and_below}

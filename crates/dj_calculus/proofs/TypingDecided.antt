@@ -7,11 +7,11 @@ use Rattle.dj_names.specs.Texts.{Text}
 use Rattle.arena_walk.specs.Tree.{Trees, branch, no_trees, tree_and, list_of, children_of}
 use Rattle.dj_tree.specs.Trees.{Spot, Expr, ExprForm, OriginalForm, variable, field_of, new_of, cast_to, assignment}
 use Rattle.dj_calculus.specs.Tables.{ClassEntry, Table, Heading, heading_of}
-use Rattle.dj_calculus.specs.Subclasses.{object, Exists, HasSuperclass, Steps, stay, up, Above, Kind, null_kind, class_kind, Below, null_below, same, below_object, above, Nearest, own, inherited, FieldOf, MethodOf}
+use Rattle.dj_calculus.specs.Subclasses.{object, Exists, HasSuperclass, Steps, stay, up, Above, Kind, null_kind, class_kind, Below, null_below, same, below_object, above, Nearest, own, inherited, MethodOf}
 use Rattle.dj_calculus.specs.Typing.{Home, parameter_type, Arguments, call_with, Types, AllBelow, none_below, and_below}
 use Rattle.dj_calculus.specs.Typing.{type_of_variable, type_of_this, type_of_null, type_of_new, type_of_cast, type_of_field, type_of_assignment, type_of_call, type_of_original}
 use Rattle.dj_calculus.specs.Expressions.{takes, are_expressions, IsExpression}
-use Rattle.dj_calculus.specs.BodyRules.{place_of, IsWithin, itself, deeper, HasType, HaveTypes, HasField, HasMethod, WrongArgument, NodeRule, BreaksWithin}
+use Rattle.dj_calculus.specs.BodyRules.{place_of, itself, deeper, HasType, HaveTypes, HasField, HasMethod, WrongArgument, NodeRule, BreaksWithin}
 use Rattle.dj_calculus.specs.BodyRules.{unknown_variable, unknown_class_new, unknown_class_cast, no_field, no_field_assigned, no_method, number_of_call, number_of_original, argument_of_call, argument_of_original, assigned_type, unrelated_cast, field_of_null, method_of_null, assignment_of_null}
 use Rattle.dj_calculus.proofs.Members.{either, among_others}
 use Rattle.dj_calculus.proofs.Chains.{Ends, none_or_value, one_superclass}

@@ -5,7 +5,7 @@ use Rattle.std.specs.Fmt.{decimal}
 use Rattle.std.specs.FinMap.{entries, from_entries}
 use Rattle.dj_names.specs.Texts.{Text}
 use Rattle.arena_walk.specs.Tree.{nodes, over, fold_tree}
-use Rattle.dj_tree.specs.Trees.{Spot, Expr, ExprForm, VariableForm, ThisForm, NullForm, FieldForm, CallForm, NewForm, CastForm, AssignForm, OriginalForm, this_at, call_of}
+use Rattle.dj_tree.specs.Trees.{Expr, ExprForm, VariableForm, ThisForm, NullForm, FieldForm, CallForm, NewForm, CastForm, AssignForm, OriginalForm, this_at, call_of}
 use Rattle.dj_calculus.specs.Tables.{FieldEntry, Body, MethodEntry, ClassEntry, Table, texts_of}
 use Rattle.dj_calculus.specs.Entries.{says_original}
 use Rattle.dj_calculus.specs.TableForms.{EachMethod}

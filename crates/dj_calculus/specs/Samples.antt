@@ -6,4 +6,5 @@ pub mod S8
 pub mod S12
 pub mod S13
 pub mod NullMember
+pub mod Rules
 pub mod NullCast

@@ -1,8 +1,7 @@
 -- What every class table has.
-use Rattle.std.specs.Prelude.{◌≡◌, ℕ, ◌<◌, List, length, None, Some, Contains}
+use Rattle.std.specs.Prelude.{◌≡◌, ℕ, ◌<◌, length, None, Some, Contains}
 use Rattle.std.specs.FinMap.{get}
 use Rattle.dj_names.specs.Texts.{Text}
-use Rattle.dj_tree.specs.Trees.{Spot}
 use Rattle.dj_calculus.specs.Tables.{Signature, Body, MethodEntry, ClassEntry, Table}
 use Rattle.dj_calculus.specs.Subclasses.{object}
 use Rattle.dj_calculus.specs.Expressions.{IsExpression}

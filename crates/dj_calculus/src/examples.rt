@@ -1,5 +1,5 @@
 //! What the definitions say of small lines and classes.
-ghost use Rattle.dj_calculus.specs.Examples.{ModifiedTwice, ChangedWhereAdded, FieldMissing, OneTableInEachOrder, VersionsByName, FieldOfNull, CastOfNull};
+ghost use Rattle.dj_calculus.specs.Examples.{ModifiedTwice, ChangedWhereAdded, FieldMissing, OneTableInEachOrder, VersionsByName, FieldOfNull, CastOfNull, ClassesBreak, MembersBreak, BodiesBreak, TextsOfExpressions};
 
 /// Rule 1: two active deltas of one part that modify one method, or of which one adds the class that the other changes.
 pub fn overlaps()
@@ -26,4 +26,16 @@ pub fn kept_versions()
 pub fn null_values()
     ensures field_of_null { FieldOfNull }
     ensures cast_of_null { CastOfNull }
+{}
+
+/// Rules 9 to 16 and 18 to 21, each broken by a Java file of one line, at its place.
+pub fn one_line_files()
+    ensures classes { ClassesBreak }
+    ensures members { MembersBreak }
+    ensures bodies { BodiesBreak }
+{}
+
+/// Two expressions whose texts have each parenthesis and each comma.
+pub fn expression_texts()
+    ensures { TextsOfExpressions }
 {}

@@ -1,5 +1,5 @@
 //! Laws of files.
-ghost use Rattle.dj_front.specs.Laws.{OneLine, OneRefusal, NoRefusedLine, RefusalsAreSaid};
+ghost use Rattle.dj_front.specs.Laws.{OneLine, OneRefusal, NoRefusedLine, RefusalsAreSaid, OneJavaTable};
 
 /// Bytes say at most one product line without faults, or are refused for one reason.
 pub fn one_answer()
@@ -18,4 +18,12 @@ pub fn refusals_are_said()
     ensures { RefusalsAreSaid }
 {
     dj_lexer::token_spans();
+}
+
+/// Bytes are the Java text of one table at most, wherever its names stand.
+pub fn one_java_table()
+    ensures { OneJavaTable }
+{
+    dj_lexer::one_token_list();
+    dj_declarations::one_reading();
 }

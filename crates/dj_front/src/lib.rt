@@ -6,5 +6,5 @@ mod reading;
 #[cfg(test)]
 mod tests;
 
-pub use laws::{one_answer, refusals_are_said};
+pub use laws::{one_answer, one_java_table, refusals_are_said};
 pub use reading::{FileError, read_line};
