@@ -230,15 +230,16 @@ operations_independent x y clear =
 
 -- ---- deltas
 
+-- no thing of an operation of the one conflicts with one of an operation of the other
+pub none_between : (d e : Delta) (x y : Operation) → Disjoint d e → Contains d.operations x → Contains e.operations y → NoConflict x y
+none_between d e x y disjoint of_d of_e a b of_x of_y clash =
+    disjoint (a.at, (b.at, record { a = a; b = b; of_one = within_flat touched_by d.operations x a of_d of_x; of_other = within_flat touched_by e.operations y b of_e of_y; clash = clash; first_at = refl; second_at = refl }))
+
 pub deltas_independent : (d e : Delta) → Disjoint d e → Independent (apply_delta d) (apply_delta e)
 deltas_independent d e disjoint =
     run_independent apply (apply_delta e) d.operations
     (each_of _ d.operations (λ x of_d. turned (apply_delta e) (apply x)
-    (run_independent apply (apply x) e.operations (each_of _ e.operations (λ y of_e. turned (apply x) (apply y) (operations_independent x y (none_between x y of_d of_e)))))))
-  where
-    none_between : (x y : Operation) → Contains d.operations x → Contains e.operations y → NoConflict x y
-    none_between x y of_d of_e a b of_x of_y clash =
-        disjoint (a.at, (b.at, record { a = a; b = b; of_one = within_flat touched_by d.operations x a of_d of_x; of_other = within_flat touched_by e.operations y b of_e of_y; clash = clash; first_at = refl; second_at = refl }))
+    (run_independent apply (apply x) e.operations (each_of _ e.operations (λ y of_e. turned (apply x) (apply y) (operations_independent x y (none_between d e x y disjoint of_d of_e)))))))
 
 -- the operations of a delta, each on a class of its own, are independent
 pub operations_pairwise : (operations : List Operation) → StandOnce (map class_name operations) → Pairwise apply operations

@@ -153,3 +153,15 @@ found_sorted (e ∷ es) q x sorted (suc i, low, is) =
 
 pub entry_found : {X : Type 0} (m : TextMap X) (q : Text) (x : X) → Contains (entries m) (q, x) → get m q ≡ Some x
 entry_found m q x has = get-entries m q ∙ found_sorted (entries m) q x (entries_sorted m) has
+
+-- a key stands once among the entries
+pub key_once : {X : Type 0} (m : TextMap X) (q : Text) (x y : X) → Contains (entries m) (q, x) → Contains (entries m) (q, y) → x ≡ y
+key_once m q x y first second = same_value (entry_found m q x first) (entry_found m q y second)
+  where
+    same_value : {o : Option _} → o ≡ Some x → o ≡ Some y → x ≡ y
+    same_value p r = cc
+
+-- the values changed before a map is made, or after
+pub changed_entries : {X Y : Type 0} (f : X → Y) (es : List (Text × X)) → map_values f (from_entries {R = text_cmp} es) ≡ from_entries (map (λ (e : Text × X). (e.0, f e.1)) es)
+changed_entries f es =
+    same_map text_total text_antisymmetric _ _ (λ q. get_changed f (from_entries es) q ∙ ap (option_map f) (get-from_entries text_total es q) ∙ sym (find_changed f q es) ∙ sym (get-from_entries text_total _ q))

@@ -132,6 +132,11 @@ pub each_of : {X : Type 0} (P : X → Type 0) (xs : List X) → ((x : X) → Con
 each_of P [] all = none
 each_of P (x ∷ xs) all = and (all x (0, omega arith, refl)) (each_of P xs (λ y within. all y (among_others x y xs within)))
 
+pub each_at : {X : Type 0} (P : X → Type 0) (xs : List X) (k : ℕ) (x : X) → Each P xs → slice_get xs k ≡ Some x → P x
+each_at P xs k x none is = absurd cc
+each_at P xs zero x (and {x = y} here all) is = let same : y ≡ x = cc in subst P same here
+each_at P xs (suc k) x (and {xs = rest} here all) is = each_at P rest k x all is
+
 pub each_append : {X : Type 0} (P : X → Type 0) (xs ys : List X) → Each P xs → Each P ys → Each P (xs ++ ys)
 each_append P xs ys none more = more
 each_append P xs ys (and {xs = rest} here all) more = and here (each_append P rest ys all more)

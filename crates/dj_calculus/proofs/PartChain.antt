@@ -1,4 +1,5 @@
--- The chain of parts has just the parts that are reached, where no two share a name.
+-- The chain of parts has just the parts that are reached, where no two share a name. For clients: parts by the number of steps in which they
+-- are reached.
 use Rattle.std.proofs.Common.{◌≡◌, ◌⊎◌, ◌↔◌, ℕ, zero, suc, ◌<◌, Bool, true, false, cond, List, [], ◌∷◌, length, map, Option, Some, None, is_none, slice_get, Contains, refl, sym, ap, ◌∙◌, subst, arith}
 use Rattle.std.specs.List.{find}
 use Rattle.std.specs.Option.{option_map_or}
@@ -61,11 +62,11 @@ module _ (parts : List Part) where
   pub names_it : (p q : Part) → next_part parts p ≡ Some q → (a : Spot) × (q.after ≡ Some a) × (a.text ≡ p.name.text)
   names_it p q next = after_name q.after p.name.text (found_does (comes_after p) parts q next)
 
-  lacks_after : (p : Part) (a : Spot) → first_part parts ≡ Some p → p.after ≡ Some a → ⊥
+  pub lacks_after : (p : Part) (a : Spot) → first_part parts ≡ Some p → p.after ≡ Some a → ⊥
   lacks_after p a first is = none_there p.after a (found_does (λ x. is_none x.after) parts p first) is
 
   module _ (once : StandOnce (map (λ x. x.name) parts)) where
-    one_before : (p r q : Part) → Contains parts p → Contains parts r → next_part parts p ≡ Some q → next_part parts r ≡ Some q → p ≡ r
+    pub one_before : (p r q : Part) → Contains parts p → Contains parts r → next_part parts p ≡ Some q → next_part parts r ≡ Some q → p ≡ r
     one_before p r q at_p at_r to_q from_r =
         let a = names_it p q to_q in
         let b = names_it r q from_r in
@@ -96,7 +97,7 @@ module _ (parts : List Part) where
 
   -- ---- the chain
 
-  next_in : (n : ℕ) (o : Option Part) (k : ℕ) (p q : Part) → slice_get (parts_from n parts o) k ≡ Some p → next_part parts p ≡ Some q → suc k < n
+  pub next_in : (n : ℕ) (o : Option Part) (k : ℕ) (p q : Part) → slice_get (parts_from n parts o) k ≡ Some p → next_part parts p ≡ Some q → suc k < n
       → slice_get (parts_from n parts o) (suc k) ≡ Some q
   next_in zero o k p q e next low = absurd (omega arith)
   next_in (suc n) None k p q e next low = absurd cc
@@ -107,13 +108,13 @@ module _ (parts : List Part) where
       subst (λ o. slice_get (parts_from (suc n) parts o) 0 ≡ Some q) (sym later) refl
   next_in (suc n) (Some r) (suc k) p q e next low = next_in n (next_part parts r) k p q e next (omega arith)
 
-  at_number : (n k : ℕ) (p : Part) → ReachedIn k p → k < n → slice_get (parts_from n parts (first_part parts)) k ≡ Some p
+  pub at_number : (n k : ℕ) (p : Part) → ReachedIn k p → k < n → slice_get (parts_from n parts (first_part parts)) k ≡ Some p
   at_number zero k p reached low = absurd (omega arith)
   at_number (suc n) k p (at_first first) low = subst (λ o. slice_get (parts_from (suc n) parts o) 0 ≡ Some p) (sym first) refl
   at_number (suc n) k p (after_that {k = j} {p = r} reached next) low =
       next_in (suc n) (first_part parts) j r p (at_number (suc n) j r reached (omega arith)) next (omega arith)
 
-  reached_on : (n : ℕ) (o : Option Part) (p : Part) → ((q : Part) → o ≡ Some q → IsReached parts q) → Contains (parts_from n parts o) p → IsReached parts p
+  pub reached_on : (n : ℕ) (o : Option Part) (p : Part) → ((q : Part) → o ≡ Some q → IsReached parts q) → Contains (parts_from n parts o) p → IsReached parts p
   reached_on zero o p reached within = no_element p within
   reached_on (suc n) None p reached within = no_element p within
   reached_on (suc n) (Some r) p reached within =
