@@ -1,5 +1,5 @@
 -- Words of the line dialect have no `$`. So products of laid, accepted sources have a flat table.
-use Rattle.std.proofs.Common.{◌≡◌, ◌⊎◌, inl, inr, ℕ, zero, suc, ◌<◌, Bool, true, false, ◌==◌, List, [], ◌∷◌, ◌++◌, length, get_or, slice_index_or, Option, Some, None, Contains, refl, sym, ap, ◌∙◌, subst, arith}
+use Rattle.std.proofs.Common.{◌≡◌, inl, inr, ℕ, ◌<◌, Bool, true, false, ◌==◌, List, [], ◌∷◌, get_or, slice_index_or, Option, Some, Contains, refl, sym, ◌∙◌, subst, arith}
 use Rattle.std.specs.Prelude.{encode_utf8_all, encode_utf8}
 use Rattle.std.specs.List.{flat_map}
 use Rattle.std.specs.FinMap.{entries}
@@ -9,16 +9,15 @@ use Rattle.std.proofs.lemmas.List.{append-nil}
 use Rattle.std.proofs.lemmas.List.Elements.{All-contains}
 use Rattle.std.proofs.lemmas.Str.{inside_one}
 use Rattle.unicode_ident.proofs.Computing.{unicode_ident}
-use Rattle.dj_names.specs.Texts.{Text}
 use Rattle.dj_lexer.specs.Alphabet.{starts_word, continues_word}
 use Rattle.dj_lexer.specs.Tokens.{Piece, white_space, line_comment, block_comment, word, symbol}
-use Rattle.dj_lexer.specs.Symbols.{Symbol, IsToken}
+use Rattle.dj_lexer.specs.Symbols.{IsToken}
 use Rattle.dj_lexer.specs.declared.token.Dialect.TheVariants.{Line}
 use Rattle.dj_lexer.specs.declared.token.TokenKind.{TokenKind}
-use Rattle.dj_lexer.specs.declared.token.TokenKind.TheVariants.{Word, Symbol as Sign}
+use Rattle.dj_lexer.specs.declared.token.TokenKind.TheVariants.{Word}
 use Rattle.dj_tree.specs.Trees.{Spot, Source}
 use Rattle.dj_tree.specs.Spells.{Laid}
-use Rattle.dj_tree.specs.Words.{named, IsName}
+use Rattle.dj_tree.specs.Words.{named}
 use Rattle.dj_calculus.specs.Configurations.{Configuration}
 use Rattle.dj_calculus.specs.Accepted.{IsAccepted}
 use Rattle.dj_calculus.specs.Tables.{Table}

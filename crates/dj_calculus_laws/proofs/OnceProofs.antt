@@ -1,10 +1,11 @@
 -- Operations of one delta are on different classes, and steps of one change touch different pieces.
-use Rattle.std.proofs.Common.{◌≡◌, ◌≢◌, ℕ, zero, suc, ◌<◌, List, [], ◌∷◌, ◌++◌, map, Option, None, Some, length, slice_index_or, Contains, refl, sym, ap, ◌∙◌, subst, arith}
+use Rattle.std.proofs.Common.{◌≡◌, ◌≢◌, ℕ, zero, suc, ◌<◌, List, [], ◌∷◌, ◌++◌, map, Option, None, Some, length, slice_index_or, Contains, refl, subst, arith}
 use Rattle.std.specs.List.{AllPairs, filter_map}
-use Rattle.dj_names.specs.Texts.{Text}
-use Rattle.dj_tree.specs.Trees.{Spot, MemberOperation, Operation, Delta, Change, Source}
+use Rattle.dj_tree.specs.Trees.{Spot, Class, MemberOperation, Delta, Change, Source}
 use Rattle.dj_calculus.specs.Accepted.{IsAccepted}
-use Rattle.dj_calculus.specs.Contents.{class_name, changes_of, field_name, method_name}
+use Rattle.dj_calculus.specs.Contents.{class_name, classes_of, changes_of, field_name, method_name}
+use Rattle.dj_calculus.specs.Faults.{RepeatedMember}
+use Rattle.dj_calculus.specs.FaultPlaces.{repeated_field, repeated_method}
 use Rattle.dj_calculus.specs.Things.{Step, extends, does, first_steps, steps_of, piece}
 use Rattle.dj_calculus.proofs.Members.{StandOnce, later_once, first_apart, mapped_within, mapped_from}
 use Rattle.dj_calculus.proofs.OperationLemmas.{apart_members, named, later_option, not_superclass}
@@ -62,3 +63,9 @@ with_first (Some p) members fields methods =
 
 pub steps_apart : (source : Source) (c : Change) → IsAccepted source → Contains (changes_of source) c → AllPairs Apart (steps_of c)
 steps_apart source c accepted within = let once = members_once source accepted c within in with_first c.parent c.members once.fields once.methods
+
+pub fields_once : (source : Source) (c : Class) → IsAccepted source → Contains (classes_of source) c → AllPairs (λ f g. f.name.text ≢ g.name.text) c.fields
+fields_once source c accepted within = apart_names (λ f. f.name) c.fields (λ at r. accepted RepeatedMember at (repeated_field c at within r))
+
+pub methods_once : (source : Source) (c : Class) → IsAccepted source → Contains (classes_of source) c → AllPairs (λ m n. m.name.text ≢ n.name.text) c.methods
+methods_once source c accepted within = apart_names (λ m. m.name) c.methods (λ at r. accepted RepeatedMember at (repeated_method c at within r))

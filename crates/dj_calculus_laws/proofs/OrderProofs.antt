@@ -1,13 +1,12 @@
 -- Allowed orders agree where the active deltas of each part are disjoint.
-use Rattle.std.proofs.Common.{◌≡◌, ◌↔◌, ℕ, suc, List, [], ◌∷◌, ◌++◌, take, Some, slice_get, Contains, refl, sym, ap, ◌∙◌, subst, arith}
-use Rattle.std.specs.List.{AllPairs, flat_map}
+use Rattle.std.proofs.Common.{◌≡◌, ◌↔◌, ℕ, suc, List, [], ◌∷◌, ◌++◌, take, Some, slice_get, refl, sym, ap, ◌∙◌, arith}
+use Rattle.std.specs.List.{flat_map}
 use Rattle.std.specs.Option.{option_and_then}
 use Rattle.std.proofs.lemmas.Grind.{flat_map-append}
 use Rattle.std.proofs.lemmas.List.{append-nil}
 use Rattle.dj_tree.specs.Trees.{Delta, Part, Source}
 use Rattle.dj_calculus.specs.Configurations.{Configuration}
 use Rattle.dj_calculus.specs.Parts.{chain, active}
-use Rattle.dj_calculus.specs.Conflicts.{Disjoint}
 use Rattle.dj_calculus.specs.Tables.{Table, empty_table}
 use Rattle.dj_calculus.specs.Operations.{run, apply_delta}
 use Rattle.dj_calculus.specs.Products.{AllowedAlong, fold_deltas, Makes, table_after}

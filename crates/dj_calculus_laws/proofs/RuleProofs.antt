@@ -1,5 +1,5 @@
 -- The ranges of rules, and undefined operations.
-use Rattle.std.proofs.Common.{◌≡◌, ◌≢◌, ◌↔◌, ◌⊎◌, inl, inr, ℕ, ◌≤◌, Option, None, Some, Contains, refl, sym, ap, ◌∙◌, subst, arith}
+use Rattle.std.proofs.Common.{◌≡◌, ◌≢◌, ◌↔◌, ℕ, ◌≤◌, Option, None, Some, Contains, ap, subst, arith}
 use Rattle.dj_tree.specs.Trees.{Expr, Operation, Delta, Source, modifies_class}
 use Rattle.std.specs.Option.{option_map}
 use Rattle.dj_calculus.specs.Maps.{with_at}
@@ -14,7 +14,6 @@ use Rattle.dj_calculus.specs.LineRules.{OperationRule, class_there}
 use Rattle.dj_calculus.proofs.Members.{either}
 use Rattle.dj_calculus.proofs.OperationLemmas.{IsOnce, broken_operation}
 use Rattle.dj_calculus.proofs.GoodLemmas.{change_within, members_once}
-use Rattle.dj_calculus.proofs.Independence.{Defined}
 use Rattle.dj_calculus.proofs.ProductExists.{Broken, defined_or_broken}
 
 pub operation_rules : (t : Table) (x : Operation) (rule at : ℕ) → OperationRule t x rule at → (2 ≤ rule) × (rule ≤ 8)

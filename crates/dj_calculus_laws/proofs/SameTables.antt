@@ -1,15 +1,15 @@
 -- Tables that are the same but for places: what one has, the other has, and both are well typed together. For clients too.
-use Rattle.std.proofs.Common.{◌≡◌, ◌↔◌, ◌⊎◌, inl, inr, ℕ, Bool, true, false, ◌&&◌, List, [], ◌∷◌, map, Option, Some, None, is_some, IsSome, IsTrue, Contains, refl, sym, ap, ap₂, ◌∙◌, subst, arith}
+use Rattle.std.proofs.Common.{◌≡◌, ◌↔◌, ◌⊎◌, inl, inr, ℕ, Bool, true, ◌&&◌, List, [], ◌∷◌, map, Option, Some, None, is_some, IsSome, IsTrue, Contains, refl, sym, ap, ap₂, ◌∙◌, subst}
 use Rattle.std.specs.Option.{option_map}
 use Rattle.std.specs.Str.{bytes_eq}
 use Rattle.std.specs.FinMap.{get}
 use Rattle.std.proofs.lemmas.Slice.Eq.{bytes_eq-Decides}
 use Rattle.dj_names.specs.Texts.{Text}
-use Rattle.arena_walk.specs.Tree.{Trees, branch, no_trees, tree_and, trees_of, over, fold_each}
+use Rattle.arena_walk.specs.Tree.{branch, no_trees, tree_and, trees_of, over, fold_each}
 use Rattle.dj_tree.specs.Trees.{Spot, Expr, ExprForm, VariableForm, ThisForm, NullForm, FieldForm, CallForm, NewForm, CastForm, AssignForm, OriginalForm, new_of, cast_to}
 use Rattle.dj_calculus.specs.Maps.{TextMap, map_values}
 use Rattle.dj_calculus.specs.Tables.{FieldEntry, Signature, Body, MethodEntry, ClassEntry, Table, SameTable, texts_of, Heading, heading_of}
-use Rattle.dj_calculus.specs.Tables.{unplaced, unplaced_form, unplaced_expr, unplaced_field, unplaced_signature, unplaced_body, unplaced_method, unplaced_class, unplaced_table}
+use Rattle.dj_calculus.specs.Tables.{unplaced, unplaced_form, unplaced_expr, unplaced_field, unplaced_signature, unplaced_body, unplaced_method, unplaced_class}
 use Rattle.dj_calculus.specs.Entries.{same_types, same_signature}
 use Rattle.dj_calculus.specs.Subclasses.{Exists, HasSuperclass, Steps, stay, up, Above, Kind, class_kind, Below, null_below, same, below_object, above, Nearest, own, inherited, FieldOf, MethodOf, object}
 use Rattle.dj_calculus.specs.Typing.{Home, home_of, parameter_type, Arguments, Types, AllBelow, none_below, and_below, IsBody, kept, Returns, types_in, WellTyped}

@@ -1,8 +1,8 @@
 -- What holds of each name that a source says holds of each name that its products say. For clients: `source_says` (from the tokens to the
 -- source) and `product_says` (from the source to its products).
-use Rattle.std.proofs.Common.{◌≡◌, ◌⊎◌, inl, inr, ℕ, ◌<◌, Bool, true, false, List, [], ◌∷◌, ◌++◌, map, length, slice_index_or, Option, Some, None, Contains, codes, refl, sym, ap, ◌∙◌, subst, arith}
+use Rattle.std.proofs.Common.{◌≡◌, ℕ, List, [], ◌∷◌, ◌++◌, slice_index_or, Option, Some, None, Contains, codes, refl, ap, subst, arith}
 use Rattle.std.specs.List.{All, flat_map, filter_map}
-use Rattle.std.specs.FinMap.{get, entries}
+use Rattle.std.specs.FinMap.{entries}
 use Rattle.std.proofs.lemmas.List.Elements.{Contains-append_left, Contains-append_right}
 use Rattle.dj_names.specs.Texts.{Text}
 use Rattle.dj_lexer.specs.Symbols.{Symbol}
@@ -22,10 +22,10 @@ use Rattle.dj_tree.specs.LineGrammar as lines
 use Rattle.dj_tree.specs.LineGrammar.{adds_member, SpellsMemberOperation, SpellsOperation, SpellsDelta, SpellsSource}
 use Rattle.dj_calculus.specs.Configurations.{Configuration}
 use Rattle.dj_calculus.specs.Parts.{chain}
-use Rattle.dj_calculus.specs.Contents.{operations_of, classes_of, changes_of, added_by, change_by, method_added, method_modified, new_methods, modified_methods}
+use Rattle.dj_calculus.specs.Contents.{operations_of, classes_of, changes_of, added_by, change_by, method_added, method_modified, new_methods}
 use Rattle.dj_calculus.specs.Accepted.{IsAccepted}
-use Rattle.dj_calculus.specs.Tables.{Signature, Body, FieldEntry, MethodEntry, ClassEntry, Table, texts_of}
-use Rattle.dj_calculus.specs.Entries.{signature_of, body_of, method_entry, field_entry, superclass_of}
+use Rattle.dj_calculus.specs.Tables.{Body, FieldEntry, MethodEntry, Table, texts_of}
+use Rattle.dj_calculus.specs.Entries.{signature_of, body_of, method_entry, superclass_of}
 use Rattle.dj_calculus.specs.Operations.{modify}
 use Rattle.dj_calculus.specs.Products.{Product}
 use Rattle.dj_calculus.specs.Subclasses.{object}

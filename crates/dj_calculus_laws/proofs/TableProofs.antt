@@ -1,12 +1,12 @@
 -- The forms of tables: of products, of Java files, of flat tables.
-use Rattle.std.proofs.Common.{◌≡◌, ◌⊎◌, inl, inr, ℕ, zero, suc, ◌+◌, ◌<◌, Bool, true, false, cond, ◌&&◌, ◌||◌, List, [], ◌∷◌, ◌++◌, map, length, slice_get, Option, Some, None, Contains, codes, refl, sym, ap, ◌∙◌, subst, arith, length-append}
+use Rattle.std.proofs.Common.{◌≡◌, ℕ, ◌+◌, ◌<◌, Bool, true, false, ◌&&◌, ◌||◌, List, [], ◌∷◌, ◌++◌, length, slice_get, Option, Some, None, Contains, refl, sym, ap, ◌∙◌, subst, arith, length-append}
 use Rattle.std.specs.Bool.{if◌then◌else◌}
-use Rattle.std.specs.List.{list_any, flat_map, enumerate_from}
+use Rattle.std.specs.List.{list_any, enumerate_from}
 use Rattle.std.specs.FinMap.{get, entries, from_entries}
 use Rattle.std.proofs.lemmas.List.{length-map}
 use Rattle.std.proofs.lemmas.List.Elements.{Contains-append_left, Contains-append_right}
 use Rattle.dj_names.specs.Texts.{Text}
-use Rattle.arena_walk.specs.Tree.{Trees, branch, no_trees, tree_and, trees_of, nodes, fold_tree, fold_each}
+use Rattle.arena_walk.specs.Tree.{Trees, branch, no_trees, tree_and, trees_of, nodes, fold_each}
 use Rattle.dj_tree.specs.Trees.{Spot, Expr, ExprForm, VariableForm, ThisForm, NullForm, FieldForm, CallForm, NewForm, CastForm, AssignForm, OriginalForm, Method, Class, Source}
 use Rattle.dj_calculus.specs.Maps.{text_cmp}
 use Rattle.dj_calculus.specs.Configurations.{Configuration}
@@ -15,15 +15,15 @@ use Rattle.dj_calculus.specs.Contents.{new_methods, modified_methods}
 use Rattle.dj_calculus.specs.Accepted.{IsAccepted}
 use Rattle.dj_calculus.specs.Faults.{RepeatedParameter, OriginalOutside}
 use Rattle.dj_calculus.specs.FaultPlaces.{Repeats, repeated_parameter, original_outside}
-use Rattle.dj_calculus.specs.Tables.{Signature, Body, MethodEntry, ClassEntry, Table, FieldEntry, empty_table}
+use Rattle.dj_calculus.specs.Tables.{Signature, Body, MethodEntry, ClassEntry, Table, empty_table}
 use Rattle.dj_calculus.specs.Entries.{signature_of, body_of, method_entry, class_entry, same_types, same_signature, is_original, says_original}
 use Rattle.dj_calculus.specs.Operations.{modify}
 use Rattle.dj_calculus.specs.Products.{Product}
 use Rattle.dj_calculus.specs.Subclasses.{object}
 use Rattle.dj_calculus.specs.Expressions.{takes, is_expression, are_expressions, IsExpression, HasExpressions, HaveExpressions}
 use Rattle.dj_calculus.specs.TableForms.{EachMethod, EachBody, HasBody, IsMethod, IsTable, HasDistinctParameters}
-use Rattle.dj_calculus.specs.FlatTables.{version_name, calling_over, calling, version, versions, flat_class, flat, BeginsPlainly}
-use Rattle.dj_calculus.specs.JavaFiles.{RepeatedClass, RepeatedParameter as JavaParameter, JavaFaultStands, object_class, repeated_parameter as java_parameter, table_of}
+use Rattle.dj_calculus.specs.FlatTables.{calling_over, calling, version, versions, flat_class, flat, BeginsPlainly}
+use Rattle.dj_calculus.specs.JavaFiles.{RepeatedClass, RepeatedParameter as JavaParameter, object_class, repeated_parameter as java_parameter, table_of}
 use Rattle.dj_calculus.proofs.MapLemmas.{text_get-empty, found_in_entries, entry_found}
 use Rattle.dj_calculus.proofs.Members.{no_element, first_or_other, among_others, either, only_one, mapped_from, from_flat}
 use Rattle.dj_calculus.proofs.Chains.{none_or_value}

@@ -1,9 +1,9 @@
 -- What stands once in an accepted source.
 use Rattle.std.specs.Prelude.{◌≢◌, Contains}
 use Rattle.std.specs.List.{AllPairs}
-use Rattle.dj_tree.specs.Trees.{Delta, Change, Source}
+use Rattle.dj_tree.specs.Trees.{Class, Delta, Change, Source}
 use Rattle.dj_calculus.specs.Accepted.{IsAccepted}
-use Rattle.dj_calculus.specs.Contents.{class_name, changes_of}
+use Rattle.dj_calculus.specs.Contents.{class_name, classes_of, changes_of}
 use Rattle.dj_calculus.specs.Things.{steps_of, piece}
 
 -- the operations of a delta are on different classes
@@ -15,3 +15,8 @@ ClassesOnce = (source : Source) (delta : Delta) → IsAccepted source → Contai
 abbrev pub StepsTouchDifferent : Type 0
 StepsTouchDifferent = (source : Source) (c : Change) → IsAccepted source → Contains (changes_of source) c
     → AllPairs (λ x y. piece x ≢ piece y) (steps_of c)
+
+-- an added class has each field once, and each method
+pub record AddedMembersOnce : Type 0 where
+  pub fields : (source : Source) (c : Class) → IsAccepted source → Contains (classes_of source) c → AllPairs (λ f g. f.name.text ≢ g.name.text) c.fields
+  pub methods : (source : Source) (c : Class) → IsAccepted source → Contains (classes_of source) c → AllPairs (λ m n. m.name.text ≢ n.name.text) c.methods

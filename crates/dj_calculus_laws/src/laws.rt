@@ -3,7 +3,7 @@ ghost use Rattle.dj_calculus_laws.specs.TableLaws.{EmptyIsTable, ProductIsTable,
 ghost use Rattle.dj_calculus_laws.specs.OrderLaws.{OrdersAgree, OneOrderMakes, TableAfterMakes, TableAfterNext};
 ghost use Rattle.dj_calculus_laws.specs.RuleLaws.{OperationRules, TableRulesRange, NodeRules, UndefinedExactlyIf};
 ghost use Rattle.dj_calculus_laws.specs.SameTableLaws.{SameText, TypedTogether, SameHeadings};
-ghost use Rattle.dj_calculus_laws.specs.OnceLaws.{ClassesOnce, StepsTouchDifferent};
+ghost use Rattle.dj_calculus_laws.specs.OnceLaws.{ClassesOnce, AddedMembersOnce, StepsTouchDifferent};
 
 /// The empty table is one that programs have; so are products, the tables of Java files, and flat tables of such tables.
 pub fn tables_are_tables()
@@ -48,9 +48,11 @@ pub fn undefined_exactly_if()
     ensures { UndefinedExactlyIf }
 {}
 
-/// In an accepted source the operations of a delta are on different classes, and the steps of a change touch different pieces.
+/// In an accepted source the operations of a delta are on different classes, an added class has each member once, and the steps of a
+/// change touch different pieces.
 pub fn different_steps()
     ensures classes { ClassesOnce }
+    ensures members { AddedMembersOnce }
     ensures steps { StepsTouchDifferent }
 {}
 
