@@ -6,3 +6,4 @@ pub mod SameTexts
 pub mod SameTables
 pub mod SpelledNames
 pub mod LineWords
+pub mod ForProducts

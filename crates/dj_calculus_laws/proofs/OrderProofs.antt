@@ -1,5 +1,5 @@
 -- Allowed orders agree where the active deltas of each part are disjoint.
-use Rattle.std.proofs.Common.{◌≡◌, ◌↔◌, ℕ, suc, List, [], ◌∷◌, ◌++◌, take, Some, slice_get, refl, sym, ap, ◌∙◌, arith}
+use Rattle.std.proofs.Common.{List, None, Some, [], ap, arith, refl, slice_get, subst, suc, sym, take, zero, ℕ, ◌++◌, ◌↔◌, ◌∙◌, ◌∷◌, ◌≡◌, ◌≤◌, ◌⊎◌}
 use Rattle.std.specs.List.{flat_map}
 use Rattle.std.specs.Option.{option_and_then}
 use Rattle.std.proofs.lemmas.Grind.{flat_map-append}
@@ -10,7 +10,8 @@ use Rattle.dj_calculus.specs.Parts.{chain, active}
 use Rattle.dj_calculus.specs.Tables.{Table, empty_table}
 use Rattle.dj_calculus.specs.Operations.{run, apply_delta}
 use Rattle.dj_calculus.specs.Products.{AllowedAlong, fold_deltas, Makes, table_after}
-use Rattle.dj_calculus.proofs.Members.{among_others}
+use Rattle.dj_calculus.proofs.Members.{among_others, either}
+use Rattle.dj_calculus.proofs.Chains.{none_or_value}
 use Rattle.dj_calculus.proofs.OrderLemmas.{splits, ends}
 use Rattle.dj_calculus.proofs.Independence.{run_reordered, reordered, then_same}
 use Rattle.dj_calculus.proofs.GoodLemmas.{run_append}
@@ -54,6 +55,26 @@ module _ (source : Source) (c : Configuration) where
       ∙ ap fold_deltas (flat_map-append (active source c) (take k (chain source)) (part ∷ []))
       ∙ run_append apply_delta before (active source c part ++ []) empty_table
       ∙ ap (λ order. option_and_then (run apply_delta order) (fold_deltas before)) (append-nil (active source c part))
+
+take_past : {X : Type 0} (xs : List X) (n : ℕ) → slice_get xs n ≡ None → take (suc n) xs ≡ take n xs
+take_past [] zero e = refl
+take_past [] (suc n) e = refl
+take_past (x ∷ xs) zero e = absurd cc
+take_past (x ∷ xs) (suc n) e = ap (λ ys. x ∷ ys) (take_past xs n e)
+
+next_stopped : (source : Source) (c : Configuration) (n : ℕ) → table_after source c n ≡ None → table_after source c (suc n) ≡ None
+next_stopped source c n none =
+    either (none_or_value (slice_get (chain source) n))
+    (λ past. ap (λ parts. fold_deltas (flat_map (active source c) parts)) (take_past (chain source) n past) ∙ none)
+    (λ part. table_after_next source c n part.0 part.1 ∙ ap (option_and_then (run apply_delta (active source c part.0))) none)
+
+earlier_or_same : (k n : ℕ) → k ≤ suc n → (k ≤ n) ⊎ (k ≡ suc n)
+earlier_or_same k n low = grind arith
+
+pub stays_stopped : (source : Source) (c : Configuration) (k n : ℕ) → k ≤ n → table_after source c k ≡ None → table_after source c n ≡ None
+stays_stopped source c k zero low none = let same : k ≡ 0 = omega arith in subst (λ i. table_after source c i ≡ None) same none
+stays_stopped source c k (suc n) low none =
+    either (earlier_or_same k n low) (λ earlier. next_stopped source c n (stays_stopped source c k n earlier none)) (λ same. subst (λ i. table_after source c i ≡ None) same none)
 
 pub orders_agree : (source : Source) (c : Configuration) (parts : List Part) (one other : List Delta) → AreDisjoint source c parts
     → AllowedAlong source c parts one → AllowedAlong source c parts other → fold_deltas one ≡ fold_deltas other

@@ -1,5 +1,5 @@
 -- One allowed order is enough where the active deltas of each part are disjoint.
-use Rattle.std.specs.Prelude.{◌≡◌, ◌↔◌, ℕ, suc, List, take, slice_get, Some, Contains}
+use Rattle.std.specs.Prelude.{◌≡◌, ◌↔◌, ◌≤◌, ℕ, suc, List, take, slice_get, Some, None, Contains}
 use Rattle.std.specs.List.{AllPairs}
 use Rattle.std.specs.Option.{option_and_then}
 use Rattle.dj_tree.specs.Trees.{Delta, Part, Source}
@@ -33,3 +33,7 @@ TableAfterMakes = (source : Source) (c : Configuration) (k : ℕ) (t : Table) �
 abbrev pub TableAfterNext : Type 0
 TableAfterNext = (source : Source) (c : Configuration) (k : ℕ) (part : Part) → slice_get (chain source) k ≡ Some part
     → table_after source c (suc k) ≡ option_and_then (run apply_delta (active source c part)) (table_after source c k)
+
+-- where the default order is undefined after some parts, it is after more
+abbrev pub StaysUndefined : Type 0
+StaysUndefined = (source : Source) (c : Configuration) (k n : ℕ) → k ≤ n → table_after source c k ≡ None → table_after source c n ≡ None

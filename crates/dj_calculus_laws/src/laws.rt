@@ -1,6 +1,6 @@
 //! Laws of tables, orders, rules and sources.
 ghost use Rattle.dj_calculus_laws.specs.TableLaws.{EmptyIsTable, ProductIsTable, ProductHasDistinct, ProductBeginsPlainly, ProductHasNoDollar, ProductIsFlattenable, JavaIsTable, JavaHasDistinct, FlatIsTable, FlatHasDistinct};
-ghost use Rattle.dj_calculus_laws.specs.OrderLaws.{OrdersAgree, OneOrderMakes, TableAfterMakes, TableAfterNext};
+ghost use Rattle.dj_calculus_laws.specs.OrderLaws.{OrdersAgree, OneOrderMakes, TableAfterMakes, TableAfterNext, StaysUndefined};
 ghost use Rattle.dj_calculus_laws.specs.RuleLaws.{OperationRules, TableRulesRange, NodeRules, UndefinedExactlyIf};
 ghost use Rattle.dj_calculus_laws.specs.SameTableLaws.{SameText, TypedTogether, SameHeadings};
 ghost use Rattle.dj_calculus_laws.specs.OnceLaws.{ClassesOnce, AddedMembersOnce, StepsTouchDifferent};
@@ -33,7 +33,12 @@ pub fn disjoint_orders()
     ensures orders_agree { OrdersAgree }
     ensures one_order_makes { OneOrderMakes }
     ensures table_after { TableAfterMakes }
+{}
+
+/// After one part more stands what its active deltas make of the table before it. What is undefined stays so.
+pub fn parts_in_order()
     ensures next { TableAfterNext }
+    ensures undefined { StaysUndefined }
 {}
 
 /// Operations break rules 2 to 8, tables 9 to 23, and nodes 14 to 23 but 21.

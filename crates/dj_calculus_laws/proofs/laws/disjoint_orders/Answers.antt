@@ -1,4 +1,4 @@
-use Rattle.dj_calculus_laws.proofs.OrderProofs.{orders_agree, one_order_makes, table_after_makes, table_after_next}
+use Rattle.dj_calculus_laws.proofs.OrderProofs.{orders_agree, one_order_makes, table_after_makes}
 use Rattle.dj_calculus_laws.proofs.laws.disjoint_orders.Goals as goal
 
 pub returns-clause-orders_agree : goal.returns-clause-orders_agree
@@ -9,6 +9,3 @@ returns-clause-one_order_makes c = one_order_makes
 
 pub returns-clause-table_after : goal.returns-clause-table_after
 returns-clause-table_after c = table_after_makes
-
-pub returns-clause-next : goal.returns-clause-next
-returns-clause-next c = table_after_next
