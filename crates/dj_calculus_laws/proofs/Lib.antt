@@ -7,3 +7,6 @@ pub mod SameTables
 pub mod SpelledNames
 pub mod LineWords
 pub mod ForProducts
+pub mod VersionNames
+pub mod FlatTyping
+pub mod FlatAgain

@@ -1,4 +1,5 @@
 pub mod TableLaws
+pub mod FlatLaws
 pub mod OrderLaws
 pub mod RuleLaws
 pub mod OnceLaws

@@ -1,5 +1,6 @@
 //! Laws of tables, orders, rules and sources.
 ghost use Rattle.dj_calculus_laws.specs.TableLaws.{EmptyIsTable, ProductIsTable, ProductHasDistinct, ProductBeginsPlainly, ProductHasNoDollar, ProductIsFlattenable, JavaIsTable, JavaHasDistinct, FlatIsTable, FlatHasDistinct};
+ghost use Rattle.dj_calculus_laws.specs.FlatLaws.{FlatIsWellTyped, FlatAgain};
 ghost use Rattle.dj_calculus_laws.specs.OrderLaws.{OrdersAgree, OneOrderMakes, TableAfterMakes, TableAfterNext, StaysUndefined};
 ghost use Rattle.dj_calculus_laws.specs.RuleLaws.{OperationRules, TableRulesRange, NodeRules, UndefinedExactlyIf};
 ghost use Rattle.dj_calculus_laws.specs.SameTableLaws.{SameText, TypedTogether, SameHeadings};
@@ -66,4 +67,10 @@ pub fn places_never_matter()
     ensures text { SameText }
     ensures typing { TypedTogether }
     ensures signatures { SameHeadings }
+{}
+
+/// The flat table of a well typed table is well typed, where it is defined. A table that is flat is its own flat table.
+pub fn flat_tables()
+    ensures well_typed { FlatIsWellTyped }
+    ensures again { FlatAgain }
 {}
