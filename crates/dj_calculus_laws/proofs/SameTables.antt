@@ -1,5 +1,5 @@
 -- Tables that are the same but for places: what one has, the other has, and both are well typed together. For clients too.
-use Rattle.std.proofs.Common.{◌≡◌, ◌↔◌, ◌⊎◌, inl, inr, ℕ, Bool, true, ◌&&◌, List, [], ◌∷◌, map, Option, Some, None, is_some, IsSome, IsTrue, Contains, refl, sym, ap, ap₂, ◌∙◌, subst}
+use Rattle.std.proofs.Common.{◌≡◌, ◌↔◌, ◌⊎◌, inl, inr, ℕ, Bool, true, ◌&&◌, List, [], ◌∷◌, map, Option, Some, None, is_some, IsSome, IsTrue, Contains, refl, sym, ap, ap₂, ◌∙◌, subst, ◌<◌, length, slice_get}
 use Rattle.std.specs.Option.{option_map}
 use Rattle.std.specs.Str.{bytes_eq}
 use Rattle.std.specs.FinMap.{get}
@@ -14,10 +14,14 @@ use Rattle.dj_calculus.specs.Entries.{same_types, same_signature}
 use Rattle.dj_calculus.specs.Subclasses.{Exists, HasSuperclass, Steps, stay, up, Above, Kind, class_kind, Below, null_below, same, below_object, above, Nearest, own, inherited, FieldOf, MethodOf, object}
 use Rattle.dj_calculus.specs.Typing.{Home, home_of, parameter_type, Arguments, Types, AllBelow, none_below, and_below, IsBody, kept, Returns, types_in, WellTyped}
 use Rattle.dj_calculus.specs.Typing.{type_of_variable, type_of_this, type_of_null, type_of_new, type_of_cast, type_of_field, type_of_assignment, type_of_call, type_of_original}
+use Rattle.std.proofs.lemmas.List.{length-map}
+use Rattle.std.proofs.lemmas.Option.{slice_get-map}
+use Rattle.dj_calculus.specs.Expressions.{IsExpression}
+use Rattle.dj_calculus.specs.TableForms.{HasBody, IsMethod, IsTable, HasDistinctParameters}
 use Rattle.dj_calculus.proofs.MapLemmas.{get_changed}
 use Rattle.dj_calculus.proofs.Members.{either, mapped, mapped_within, mapped_from}
 use Rattle.dj_calculus.proofs.Chains.{none_or_value}
-use Rattle.dj_calculus.proofs.ExpressionForms.{both_of}
+use Rattle.dj_calculus.proofs.ExpressionForms.{both_of, Formed, a_variable, a_this, a_null, a_new, a_cast, a_field, an_assignment, a_call, an_original, EachFormed, none_formed, formed_and, formed, is_formed}
 
 -- ---- maps whose values are the same in another form
 
@@ -336,3 +340,87 @@ module _ (t u : Table) (alike : SameTable t u) (typed : WellTyped t) where
 
 pub typed_together : (t u : Table) → SameTable t u → WellTyped t ↔ WellTyped u
 typed_together t u alike = (λ typed. typed_in_other t u alike typed, λ typed. typed_in_other u t (sym alike) typed)
+
+-- ---- class tables together
+
+mutual
+  formed_same : (e d : Expr) → Formed e → SameExpr e d → Formed d
+  formed_same e d a_variable (node (same_variable s) no_more) = a_variable
+  formed_same e d a_this (node same_this no_more) = a_this
+  formed_same e d a_null (node same_null no_more) = a_null
+  formed_same e d a_new (node (same_new s) no_more) = a_new
+  formed_same e d (a_cast {e = v} is) (node (same_cast s) (one_more {d = w} it no_more)) = a_cast (formed_same v w is it)
+  formed_same e d (a_field {e = v} is) (node (same_field s) (one_more {d = w} it no_more)) = a_field (formed_same v w is it)
+  formed_same e d (an_assignment {e = v} {v = v'} is its) (node (same_assign s) (one_more {d = w} it (one_more {d = w'} other no_more))) =
+      an_assignment (formed_same v w is it) (formed_same v' w' its other)
+  formed_same e d (a_call {e = v} {arguments = es} is are) (node (same_call s) (one_more {d = w} {ds = ds} it others)) =
+      a_call (formed_same v w is it) (each_formed_same es ds are others)
+  formed_same e d (an_original {arguments = es} are) (node {others = ds} same_original others) = an_original (each_formed_same es ds are others)
+
+  each_formed_same : (es ds : Arguments) → EachFormed es → SameExprs es ds → EachFormed ds
+  each_formed_same es ds none_formed no_more = none_formed
+  each_formed_same es ds (formed_and {e = e} {arguments = rest} is are) (one_more {d = d} {ds = others} it them) =
+      formed_and (formed_same e d is it) (each_formed_same rest others are them)
+
+pub expression_unplaced : (e d : Expr) → unplaced_expr e ≡ unplaced_expr d → IsExpression e → IsExpression d
+expression_unplaced e d alike is =
+    is_formed d
+    (formed_same (unplaced_expr d) d (subst Formed alike (formed_same e (unplaced_expr e) (formed e is) (to_unplaced e))) (from_unplaced d))
+
+same_lengths : {X : Type 0} (f : X → X) (xs ys : List X) → map f xs ≡ map f ys → length xs ≡ length ys
+same_lengths f xs ys e = sym (length-map xs f) ∙ ap length e ∙ length-map ys f
+
+module _ (t u : Table) (alike : SameTable t u) where
+  -- the method and the body that the other table has
+  record Other (c m : Text) (x : MethodEntry) : Type 0 where
+    pub entry : ClassEntry
+    pub there : get t c ≡ Some entry
+    pub method : MethodEntry
+    pub has : get entry.methods m ≡ Some method
+    pub same_one : unplaced_method method ≡ unplaced_method x
+
+  other_method : (c m : Text) (e : ClassEntry) (x : MethodEntry) → get u c ≡ Some e → get e.methods m ≡ Some x → Other c m x
+  other_method c m e x is has =
+      let o = found_in_other unplaced_class u t (sym alike) c e is in
+      let y = found_in_other unplaced_method e.methods o.0.methods (sym (ap (λ z. z.methods) o.2)) m x has in
+      record { entry = o.0; there = o.1; method = y.0; has = y.1; same_one = y.2 }
+
+  other_body : (c m : Text) (x : MethodEntry) (o : Other c m x) (b : Body) → Contains x.bodies b → (a : Body) × Contains o.method.bodies a × (unplaced_body a ≡ unplaced_body b)
+  other_body c m x o b within =
+      mapped_from unplaced_body o.method.bodies (unplaced_body b)
+      (subst (λ bs. Contains bs (unplaced_body b)) (sym (ap (λ z. z.bodies) o.same_one)) (mapped_within unplaced_body x.bodies b within))
+
+  pub table_in_other : IsTable t → IsTable u
+  table_in_other is_table = record { no_object = missing_in_other unplaced_class t u alike object is_table.no_object; methods = methods_are }
+    where
+      body_is : (y x : MethodEntry) (a b : Body) → unplaced_method y ≡ unplaced_method x → unplaced_body a ≡ unplaced_body b → HasBody y.signature a → HasBody x.signature b
+      body_is y x a b methods_are bodies_are has =
+          record {
+            expression = expression_unplaced a.value b.value (ap (λ z. z.value) bodies_are) has.expression;
+            count = sym (same_lengths unplaced a.names b.names (ap (λ z. z.names) bodies_are)) ∙ has.count
+                ∙ same_lengths unplaced y.signature.parameters x.signature.parameters (ap (λ z. z.signature.parameters) methods_are);
+          }
+
+      methods_are : (c m : Text) (e : ClassEntry) (x : MethodEntry) → get u c ≡ Some e → get e.methods m ≡ Some x → IsMethod x
+      methods_are c m e x is has =
+          let o = other_method c m e x is has in
+          let was = is_table.methods c m o.entry o.method o.there o.has in
+          record {
+            some = subst (λ n. 0 < n) (same_lengths unplaced_body o.method.bodies x.bodies (ap (λ z. z.bodies) o.same_one)) was.some;
+            bodies = λ b within. let a = other_body c m x o b within in body_is o.method x a.0 b o.same_one a.2 (was.bodies a.0 a.1);
+          }
+
+  pub distinct_in_other : HasDistinctParameters t → HasDistinctParameters u
+  distinct_in_other distinct c m e x is has b within at r =
+      let o = other_method c m e x is has in
+      let a = other_body c m x o b within in
+      let names : map unplaced a.0.names ≡ map unplaced b.names = ap (λ z. z.names) a.2 in
+      let first = name_at a.0.names b.names names r.before r.x r.at_before in
+      let second = name_at a.0.names b.names names r.number r.y r.at_number in
+      distinct c m o.entry o.method o.there o.has a.0 a.1 second.0.at
+      (record { before = r.before; number = r.number; earlier = r.earlier; x = first.0; y = second.0; at_before = first.1; at_number = second.1; same = first.2 ∙ r.same ∙ sym second.2; here = refl })
+    where
+      name_at : (xs ys : List Spot) → map unplaced xs ≡ map unplaced ys → (k : ℕ) (y : Spot) → slice_get ys k ≡ Some y → (x : Spot) × (slice_get xs k ≡ Some x) × (x.text ≡ y.text)
+      name_at xs ys e k y at_y =
+          let found = mapped unplaced (slice_get xs k) (unplaced y) (sym (slice_get-map unplaced xs k) ∙ ap (λ zs. slice_get zs k) e ∙ slice_get-map unplaced ys k ∙ ap (option_map unplaced) at_y) in
+          (found.0, found.1, ap (λ z. z.text) found.2)

@@ -3,10 +3,11 @@ ghost use Rattle.dj_calculus_laws.specs.TableLaws.{EmptyIsTable, ProductIsTable,
 ghost use Rattle.dj_calculus_laws.specs.FlatLaws.{FlatIsWellTyped, FlatAgain};
 ghost use Rattle.dj_calculus_laws.specs.OrderLaws.{OrdersAgree, OneOrderMakes, TableAfterMakes, TableAfterNext, StaysUndefined};
 ghost use Rattle.dj_calculus_laws.specs.RuleLaws.{OperationRules, TableRulesRange, NodeRules, UndefinedExactlyIf};
-ghost use Rattle.dj_calculus_laws.specs.SameTableLaws.{SameText, TypedTogether, SameHeadings};
+ghost use Rattle.dj_calculus_laws.specs.SameTableLaws.{SameText, TypedTogether, TablesTogether, DistinctTogether, SameHeadings};
 ghost use Rattle.dj_calculus_laws.specs.OnceLaws.{ClassesOnce, AddedMembersOnce, StepsTouchDifferent};
 
-/// The empty table is one that programs have; so are products, the tables of Java files, and flat tables of such tables.
+/// The empty table is a class table, as `IsTable` says; so are the product of an accepted source whose bodies are expressions, the table
+/// of a Java file without a fault, and the flat table of a class table.
 pub fn tables_are_tables()
     ensures empty { EmptyIsTable }
     ensures product { ProductIsTable }
@@ -14,7 +15,8 @@ pub fn tables_are_tables()
     ensures flat { FlatIsTable }
 {}
 
-/// They have no parameter twice.
+/// Products of accepted sources and tables of Java files without a fault have no parameter twice, nor have flat tables of tables that
+/// have none.
 pub fn distinct_parameters()
     ensures product { ProductHasDistinct }
     ensures java { JavaHasDistinct }
@@ -62,10 +64,13 @@ pub fn different_steps()
     ensures steps { StepsTouchDifferent }
 {}
 
-/// Tables that are the same but for places have the same canonical text and are well typed together: no place matters for either.
+/// Tables that are the same but for places have the same canonical text, and are well typed, are class tables, and have no parameter
+/// twice together: no place matters for any of it.
 pub fn places_never_matter()
     ensures text { SameText }
     ensures typing { TypedTogether }
+    ensures tables { TablesTogether }
+    ensures parameters { DistinctTogether }
     ensures signatures { SameHeadings }
 {}
 
