@@ -1,8 +1,8 @@
 -- Bytes say at most one line, or are refused for one reason.
 use Rattle.std.specs.Prelude.{◌≡◌, ℕ, List}
 use Rattle.dj_tree.specs.Trees.{Source}
-use Rattle.dj_report.specs.declared.refusal.Refusal.{Refusal}
-use Rattle.dj_report.specs.Refusals.{IsWithin, IsNamed}
+use Rattle.dj_refusals.specs.declared.refusal.Refusal.{Refusal}
+use Rattle.dj_refusals.specs.Refusals.{IsWithin, IsNamed}
 use Rattle.dj_front.specs.Files.{IsLineFile, IsRefusedFor}
 
 abbrev pub OneLine : Type 0
