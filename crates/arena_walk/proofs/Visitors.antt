@@ -27,7 +27,7 @@ use Rattle.arena_walk.proofs.WalkLemmas.{grows}
 pub use Rattle.arena_walk.proofs.TreeLemmas.{list_of-trees_of, trees_of-list_of, size_above, size_each-append, EachNode-map, EachNode-with, EachNode-root}
 pub use Rattle.arena_walk.proofs.ForestLemmas.{trees-nil, grow-append, last_trees-append, length-last_trees, trees-push, tree_at-append, tree_at_node, tree_at_within, nodes_to, has_own}
 pub use Rattle.arena_walk.proofs.SlotLemmas.{size_within}
-pub use Rattle.arena_walk.proofs.WalkLemmas.{length_outs, numbers-range, Appends-none, Appends-more, IsAlong, along_start, along_enough, along_kids, along_next, along_end, along_at, along_with, next_node}
+pub use Rattle.arena_walk.proofs.WalkLemmas.{length_outs, numbers-range, IsAlong, along_start, along_enough, along_kids, along_next, along_end, along_at, along_with, next_node}
 
 mutual
   -- what holds of every tree and number holds of each node

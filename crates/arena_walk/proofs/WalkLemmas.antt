@@ -6,7 +6,7 @@ use Rattle.std.proofs.lemmas.Option.{slice_get_within, get_or_from_slice_get}
 use Rattle.std.proofs.lemmas.List.Sums.{fold_push, fold-append}
 use Rattle.arena_walk.specs.Tree.{Tree, Trees, branch, no_trees, tree_and, trees_of, list_of, over, size, size_each, nodes, nodes_each, numbers, numbers_each, EachNode, EachNodeOf}
 use Rattle.arena_walk.specs.Forest.{last_trees, grow, HasArity}
-use Rattle.arena_walk.specs.Walk.{Appends}
+use Rattle.std.specs.Io.KnownBytes.{Keeps, append_known}
 use Rattle.arena_walk.proofs.TreeLemmas.{trees_of-list_of, length-nodes, length-nodes_each, EachNode-map, EachNodeOf-map, EachNode-with}
 use Rattle.arena_walk.proofs.ForestLemmas.{others, grow-is, grow-append, last_trees-append}
 
@@ -201,27 +201,30 @@ pub numbers_all : {N : Type 0} (f k : ℕ) (t : Tree N) → size t ≤ k → tak
 numbers_all f k t h = take_all k (numbers f t) (omega (arith, length-numbers f t))
 
 -- what is told, step by step
-pub Appends-none : (told : Option (List ℕ)) → Appends told told []
-Appends-none None = tt
-Appends-none (Some xs) = sym (append-nil xs)
+tells-none : (told : Option (List ℕ)) → Keeps told (append_known told [])
+tells-none None = tt
+tells-none (Some xs) = append-nil xs
 
-pub Appends-more : (old between new : Option (List ℕ)) (xs ys : List ℕ) → Appends old between xs → Appends between new ys → Appends old new (xs ++ ys)
-Appends-more old between None xs ys h k = tt
-Appends-more old None (Some c) xs ys h k = absurd k
-Appends-more None (Some b) (Some c) xs ys h k = absurd h
-Appends-more (Some a) (Some b) (Some c) xs ys h k = k ∙ ap (λ zs. zs ++ ys) h ∙ append_assoc a xs ys
+tells-more : (old between new : Option (List ℕ)) (xs ys : List ℕ) → Keeps between (append_known old xs) → Keeps new (append_known between ys)
+    → Keeps new (append_known old (xs ++ ys))
+tells-more old between None xs ys h k = tt
+tells-more old None (Some c) xs ys h k = absurd k
+tells-more None (Some b) (Some c) xs ys h k = absurd h
+tells-more (Some a) (Some b) (Some c) xs ys h k = sym (append_assoc a xs ys) ∙ ap (λ zs. zs ++ ys) h ∙ k
 
-pub Appends-same : (old new : Option (List ℕ)) (xs ys : List ℕ) → xs ≡ ys → Appends old new xs → Appends old new ys
-Appends-same old new xs ys e h = subst (λ (zs : List ℕ). Appends old new zs) e h
+pub tells-same : (old new : Option (List ℕ)) (xs ys : List ℕ) → xs ≡ ys → Keeps new (append_known old xs) → Keeps new (append_known old ys)
+tells-same old new xs ys e h = subst (λ (zs : List ℕ). Keeps new (append_known old zs)) e h
 
-pub told_more : {N : Type 0} (old between new : Option (List ℕ)) (f at : ℕ) (t : Tree N) → f ≤ at → at < f + size t → Appends old between (take (at - f) (numbers f t)) → Appends between new (at ∷ []) → Appends old new (take (at + 1 - f) (numbers f t))
+pub told_more : {N : Type 0} (old between new : Option (List ℕ)) (f at : ℕ) (t : Tree N) → f ≤ at → at < f + size t
+    → Keeps between (append_known old (take (at - f) (numbers f t))) → Keeps new (append_known between (at ∷ []))
+    → Keeps new (append_known old (take (at + 1 - f) (numbers f t)))
 told_more old between new f at t low high told one =
-    Appends-same old new _ _ (numbers_more f at t low high) (Appends-more old between new (take (at - f) (numbers f t)) (at ∷ []) told one)
+    tells-same old new _ _ (numbers_more f at t low high) (tells-more old between new (take (at - f) (numbers f t)) (at ∷ []) told one)
 
-pub told_none : {N : Type 0} (told : Option (List ℕ)) (f at : ℕ) (t : Tree N) → at ≡ f → Appends told told (take (at - f) (numbers f t))
+pub told_none : {N : Type 0} (told : Option (List ℕ)) (f at : ℕ) (t : Tree N) → at ≡ f → Keeps told (append_known told (take (at - f) (numbers f t)))
 told_none told f at t e =
     let none : 0 ≡ at - f = omega arith in
-    Appends-same told told [] _ (ap (λ (k : ℕ). take k (numbers f t)) none) (Appends-none told)
+    tells-same told told [] _ (ap (λ (k : ℕ). take k (numbers f t)) none) (tells-none told)
 
 pub OnErr-always : {T E : Type 0} (r : Result T E) (P : Type 0) → P → OnErr r P
 OnErr-always (Ok x) P h = tt

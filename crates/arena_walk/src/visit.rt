@@ -4,7 +4,8 @@ ghost use Rattle.std.specs.Prelude.{◌≡◌, ℕ, ◌<◌, ◌-◌, ◌≤◌,
 ghost use Rattle.std.specs.List.{AllZip};
 ghost use Rattle.arena_walk.specs.Tree.{Tree, over, size, numbers, EachNode};
 ghost use Rattle.arena_walk.specs.Forest.{tree_at, first_number};
-ghost use Rattle.arena_walk.specs.Walk.{Appends, IfVisitor};
+ghost use Rattle.std.specs.Io.KnownBytes.{Keeps, append_known};
+ghost use Rattle.arena_walk.specs.Walk.{IfVisitor};
 
 use crate::arena::{Arena, NodeId, Shape};
 use std::alloc::Global;
@@ -16,7 +17,7 @@ use std::alloc::Global;
 /// - `admits visitor tree at`: `node` may be called on the root of this tree, whose number is `at`.
 /// - `failed visitor fault`: the fault has its cause.
 /// - `visited visitor`: the numbers of the nodes that `node` was called on, where the visitor tells
-///   them.
+///   them. What it still tells is what it told before with the new numbers behind it.
 ///
 /// What stood still stands, and what was admitted still is, when the visitor grew.
 pub trait Visit<N: Shape> {
@@ -52,7 +53,7 @@ pub trait Visit<N: Shape> {
         ensures ok { IfOk result (λ out. (kids : List (Tree N)) → AllZip (stands self.old) kids children.now
             → admits self.old (over node.now kids) at.0 → stands self.new (over node.now kids) out) }
         ensures err { IfErr result (λ fault. failed self.new fault) }
-        ensures appended { Appends (visited self.old) (visited self.new) (at.0 ∷ []) };
+        ensures appended { Keeps (visited self.new) (append_known (visited self.old) (at.0 ∷ [])) };
 
     ghost grew_reflexive: { (visitor : Self) → grew visitor visitor };
 
@@ -92,10 +93,10 @@ pub fn walk<N: Shape, V: Visit<N>>(
         → V.stands visitor.new tree out) }
     ensures err { IfErr result (λ error. IfVisitor error (V.failed visitor.new)) }
     ensures visited_all { OnOk result ((tree : Tree N) → tree_at N.arity_of arena.now root.0 ≡ Some tree
-        → Appends (V.visited visitor.old) (V.visited visitor.new) (numbers (first_number root.0 tree) tree)) }
+        → Keeps (V.visited visitor.new) (append_known (V.visited visitor.old) (numbers (first_number root.0 tree) tree))) }
     ensures visited_some { OnErr result ((tree : Tree N) → tree_at N.arity_of arena.now root.0 ≡ Some tree
         → (count : ℕ) × (count ≤ size tree)
-        × Appends (V.visited visitor.old) (V.visited visitor.new) (take count (numbers (first_number root.0 tree) tree))) }
+        × Keeps (V.visited visitor.new) (append_known (V.visited visitor.old) (take count (numbers (first_number root.0 tree) tree)))) }
 {
     let mut outs = Vec::new(alloc);
     for number in arena.first(root).0 as usize..root.0 as usize + 1 {
@@ -123,7 +124,7 @@ fn visit_node<N: Shape, V: Visit<N>>(
         → AllZip (V.stands visitor.old) kids (drop (length outs.old.items - N.arity_of node.now) outs.old.items)
         → V.admits visitor.old (over node.now kids) at.0 → V.stands visitor.new (over node.now kids) out)) }
     ensures err { IfErr result (λ error. IfVisitor error (V.failed visitor.new)) }
-    ensures appended { Appends (V.visited visitor.old) (V.visited visitor.new) (at.0 ∷ []) }
+    ensures appended { Keeps (V.visited visitor.new) (append_known (V.visited visitor.old) (at.0 ∷ [])) }
 {
     let start = outs.len() - node.arity();
     match visitor.node(node, at, &outs[start..]) {

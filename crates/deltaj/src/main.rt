@@ -1,20 +1,12 @@
 //! The program `deltaj`: the words after its name are a command over a file of the system.
 #![tactic(auto)]
 
-mod answer;
-mod commands;
-mod generation;
-mod outcome;
-mod program;
 #[cfg(test)]
 mod refutations;
-mod status;
 #[cfg(test)]
 mod tests;
-mod texts;
 
-use crate::program::run;
-use crate::status::Status;
+use dj_run::{Status, run};
 use dj_system::{Output, SystemFiles};
 use std::io::ErrorKind;
 use std::process::ExitCode;

@@ -1,6 +1,5 @@
-use crate::program::run;
-use crate::status::Status;
 use dj_io::{Fail as Fault, MemoryFiles, MemorySink, SureFiles, SureSink};
+use dj_run::{Status, run};
 use std::alloc::{AllocError as NoMemory, Global};
 use std::process::Abort;
 use std::test::Fail;
@@ -258,9 +257,15 @@ fn lines_are_generated_or_refused(rt: HostRuntime) -> Result<(), Fail> {
             Status::FILE_REFUSED,
         ),
         (
-            "/* x",
+            "line L {\r\n  /* x",
             "generate f -",
-            "refused at 1:1: comment not closed\n",
+            "refused at 2:3: comment not closed\n",
+            Status::FILE_REFUSED,
+        ),
+        (
+            "line L {\r features ß;\n\nvalid true; x",
+            "generate f -",
+            "refused at 4:13: syntax\n",
             Status::FILE_REFUSED,
         ),
         (

@@ -14,7 +14,7 @@ use crate::raw::{RawClass, RawMember};
 use crate::terminals::{name, next_is_word, sign, word, word_and_name};
 use dj_expr_reader::expressions_are_read;
 use dj_lexer::{Dialect, Token};
-use dj_reader::{ReadError, Reading};
+use dj_reader::Reading;
 use std::alloc::Global;
 
 /// Members in braces.
@@ -95,9 +95,7 @@ pub fn read_classes<'a>(
     let mut rest = tokens;
     'pieces: while !rest.is_empty() {
         let (class, after) = read_class(alloc, bytes, dialect, rest)?;
-        if classes.push(class).is_err() {
-            return Err(ReadError::NoMemory);
-        }
+        classes.push(class)?;
         rest = after;
     }
     Ok((classes, rest))

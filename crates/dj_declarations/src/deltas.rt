@@ -14,7 +14,7 @@ use crate::raw::{RawClassOp, RawDelta};
 use crate::terminals::{name, next_is_sign, sign, word};
 use dj_expr_reader::expressions_are_read;
 use dj_lexer::Token;
-use dj_reader::{ReadError, Reading};
+use dj_reader::Reading;
 use std::alloc::Global;
 
 /// Operations on classes, and the `}` behind them.
@@ -33,9 +33,7 @@ fn read_class_ops<'a>(
     let mut rest = tokens;
     'pieces: while !next_is_sign(bytes, rest, b"}") {
         let (op, after) = read_class_op(alloc, bytes, rest)?;
-        if ops.push(op).is_err() {
-            return Err(ReadError::NoMemory);
-        }
+        ops.push(op)?;
         rest = after;
     }
     let (_, rest) = sign(bytes, rest, b"}")?;
@@ -85,9 +83,7 @@ pub fn read_deltas<'a>(
     let mut rest = tokens;
     'pieces: while !rest.is_empty() {
         let (delta, after) = read_delta(alloc, bytes, rest)?;
-        if deltas.push(delta).is_err() {
-            return Err(ReadError::NoMemory);
-        }
+        deltas.push(delta)?;
         rest = after;
     }
     Ok((deltas, rest))

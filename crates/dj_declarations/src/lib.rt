@@ -19,6 +19,3 @@ pub use raw::{
     RawMethod, RawPart, RawSource,
 };
 pub use sources::read_source;
-
-#[cfg(test)]
-mod tests;

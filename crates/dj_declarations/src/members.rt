@@ -15,7 +15,7 @@ use crate::trees::expression;
 use dj_expr_reader::expressions_are_read;
 use dj_lexer::{Dialect, Token};
 use dj_nodes::ExprNodes;
-use dj_reader::{ReadError, Reading};
+use dj_reader::Reading;
 use std::alloc::Global;
 
 /// A type and a name.
@@ -49,15 +49,11 @@ fn read_more_typed<'a>(
     ensures fewer { IfOk result (λ x. length x.1.now ≤ length tokens.now) }
 {
     let mut fields = Vec::new(alloc);
-    if fields.push(first).is_err() {
-        return Err(ReadError::NoMemory);
-    }
+    fields.push(first)?;
     let mut rest = tokens;
     'pieces: while !next_is_sign(bytes, rest, b")") {
         let (field, after) = read_next_typed(bytes, rest)?;
-        if fields.push(field).is_err() {
-            return Err(ReadError::NoMemory);
-        }
+        fields.push(field)?;
         rest = after;
     }
     let (_, rest) = sign(bytes, rest, b")")?;
@@ -194,9 +190,7 @@ pub fn read_members<'a>(
     let mut rest = tokens;
     'pieces: while !next_is_sign(bytes, rest, b"}") {
         let (member, after) = read_member(alloc, bytes, dialect, rest)?;
-        if members.push(member).is_err() {
-            return Err(ReadError::NoMemory);
-        }
+        members.push(member)?;
         rest = after;
     }
     let (_, rest) = sign(bytes, rest, b"}")?;

@@ -19,7 +19,7 @@ use crate::raw::{RawChange, RawClassOp, RawMemberOp};
 use crate::terminals::{Taking, name, next_is_sign, next_is_word, sign, word, word_and_name};
 use dj_expr_reader::expressions_are_read;
 use dj_lexer::{Dialect, Token};
-use dj_reader::{ReadError, Reading};
+use dj_reader::Reading;
 use std::alloc::Global;
 
 /// This word, a name and `;`.
@@ -116,9 +116,7 @@ fn read_member_ops<'a>(
     let mut rest = tokens;
     'pieces: while !next_is_sign(bytes, rest, b"}") {
         let (op, after) = read_member_op(alloc, bytes, rest)?;
-        if ops.push(op).is_err() {
-            return Err(ReadError::NoMemory);
-        }
+        ops.push(op)?;
         rest = after;
     }
     let (_, rest) = sign(bytes, rest, b"}")?;

@@ -15,7 +15,7 @@ use crate::trees::formula;
 use dj_formula_reader::formulas_are_read;
 use dj_lexer::Token;
 use dj_nodes::FormulaNodes;
-use dj_reader::{ReadError, Reading};
+use dj_reader::Reading;
 use std::alloc::Global;
 
 /// `when` and a formula.
@@ -72,9 +72,7 @@ fn read_items<'a>(alloc: Global, bytes: &[u8], tokens: &'a [Token]) -> Reading<'
     let mut rest = tokens;
     'pieces: while !next_is_sign(bytes, rest, b"}") {
         let (item, after) = read_item(alloc, bytes, rest)?;
-        if items.push(item).is_err() {
-            return Err(ReadError::NoMemory);
-        }
+        items.push(item)?;
         rest = after;
     }
     let (_, rest) = sign(bytes, rest, b"}")?;
@@ -140,9 +138,7 @@ pub fn read_parts<'a>(alloc: Global, bytes: &[u8], tokens: &'a [Token]) -> Readi
     let mut rest = tokens;
     'pieces: while !next_is_sign(bytes, rest, b"}") {
         let (part, after) = read_part(alloc, bytes, rest)?;
-        if parts.push(part).is_err() {
-            return Err(ReadError::NoMemory);
-        }
+        parts.push(part)?;
         rest = after;
     }
     let (_, rest) = sign(bytes, rest, b"}")?;

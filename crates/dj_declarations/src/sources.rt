@@ -17,7 +17,7 @@ use crate::terminals::{Taking, name, next_is_sign, sign, word};
 use crate::trees::formula;
 use dj_lexer::Token;
 use dj_nodes::FormulaNodes;
-use dj_reader::{ReadError, Reading};
+use dj_reader::Reading;
 use std::alloc::Global;
 
 /// `line`, a name and `{`.
@@ -55,15 +55,11 @@ fn read_more_names<'a>(
     ensures fewer { IfOk result (λ x. length x.1.now ≤ length tokens.now) }
 {
     let mut names = Vec::new(alloc);
-    if names.push(first).is_err() {
-        return Err(ReadError::NoMemory);
-    }
+    names.push(first)?;
     let mut rest = tokens;
     'pieces: while !next_is_sign(bytes, rest, b";") {
         let (name, after) = read_next_name(bytes, rest)?;
-        if names.push(name).is_err() {
-            return Err(ReadError::NoMemory);
-        }
+        names.push(name)?;
         rest = after;
     }
     let (_, rest) = sign(bytes, rest, b";")?;

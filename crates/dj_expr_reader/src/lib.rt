@@ -6,8 +6,6 @@ mod finishing;
 mod laws;
 mod machine;
 mod steps;
-#[cfg(test)]
-mod tests;
 
 pub use expression::read_expr;
 pub use laws::{expressions_are_read, one_expression};

@@ -2,6 +2,7 @@ pub mod LeastLemmas
 pub mod NameLemmas
 pub mod ListFaults
 pub mod InsideLemmas
+pub mod InsidePlaces
 pub mod TreeFaults
 pub mod OperationFaults
 pub mod FirstFaults

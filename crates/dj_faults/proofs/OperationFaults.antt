@@ -14,12 +14,10 @@ use Rattle.dj_tree.specs.declared.source.Source.{Source}
 use Rattle.dj_calculus.specs.Contents.{items_of, operations_of, class_name, added_by, change_by, classes_of, changes_of, method_added, method_modified, new_methods, modified_methods}
 use Rattle.dj_calculus.specs.Faults as line
 use Rattle.dj_calculus.specs.FaultPlaces.{Repeats, FaultStands, unknown_feature, repeated_class_operation, repeated_field_operation, repeated_method_operation, repeated_field, repeated_method, repeated_parameter, reserved_class, original_outside}
-use Rattle.dj_faults.specs.declared.operations.Inside.{Inside}
-use Rattle.dj_faults.specs.declared.operations.Inside.TheVariants.{RepeatedOperation, RepeatedMember, RepeatedParameter, OriginalOutside}
 use Rattle.dj_faults.specs.LeastPlace.{IsLeastPlace, Among}
 use Rattle.dj_faults.specs.Numbers.{Again, IsSound}
 use Rattle.dj_faults.specs.Spots.{class_spot}
-use Rattle.dj_faults.specs.Inside.{UnknownName, InCondition, UnknownInItem, InMethod, InModified, InMember, InOperation, OnObject}
+use Rattle.dj_faults.specs.Inside.{Inside, RepeatedOperation, RepeatedMember, RepeatedParameter, OriginalOutside, line_fault, UnknownName, InCondition, UnknownInItem, InMethod, InModified, InMember, InOperation, ClassTwice, InOperations, OnObject}
 use Rattle.dj_faults.proofs.LeastLemmas.{least_same}
 use Rattle.dj_faults.proofs.NameLemmas.{present, map_named, AllKnown}
 use Rattle.dj_faults.proofs.ListFaults.{by_repeats}
@@ -125,7 +123,7 @@ module _ (s : Source) where
   member_to at (removes_class c) there (inl h) = absurd h
   member_to at (removes_class c) there (inr h) = absurd h
 
-  pub least_repeated_member : (o : Option ℕ) → IsLeastPlace (Among (λ d. Among (λ o. InOperation RepeatedMember (plain_operation s.names s.exprs o)) d.ops) s.deltas) o → IsLeastPlace (FaultStands (plain_source s) line.RepeatedMember) o
+  least_repeated_member : (o : Option ℕ) → IsLeastPlace (Among (λ d. Among (λ o. InOperation RepeatedMember (plain_operation s.names s.exprs o)) d.ops) s.deltas) o → IsLeastPlace (FaultStands (plain_source s) line.RepeatedMember) o
   least_repeated_member o is = least_same o (λ at h. let op = all_to (InOperation RepeatedMember) at h in member_to at op.0 op.1 op.2) (λ at h. all_from (InOperation RepeatedMember) at (back at h)) is
     where
       back : (at : ℕ) → FaultStands (plain_source s) line.RepeatedMember at → Among (InOperation RepeatedMember) (operations_of (plain_source s)) at
@@ -146,7 +144,7 @@ module _ (s : Source) where
   parameter_to at (removes_class c) there (inl h) = absurd h
   parameter_to at (removes_class c) there (inr h) = absurd h
 
-  pub least_repeated_parameter : (o : Option ℕ) → IsLeastPlace (Among (λ d. Among (λ o. InOperation RepeatedParameter (plain_operation s.names s.exprs o)) d.ops) s.deltas) o → IsLeastPlace (FaultStands (plain_source s) line.RepeatedParameter) o
+  least_repeated_parameter : (o : Option ℕ) → IsLeastPlace (Among (λ d. Among (λ o. InOperation RepeatedParameter (plain_operation s.names s.exprs o)) d.ops) s.deltas) o → IsLeastPlace (FaultStands (plain_source s) line.RepeatedParameter) o
   least_repeated_parameter o is = least_same o (λ at h. let op = all_to (InOperation RepeatedParameter) at h in parameter_to at op.0 op.1 op.2) (λ at h. all_from (InOperation RepeatedParameter) at (back at h)) is
     where
       back : (at : ℕ) → FaultStands (plain_source s) line.RepeatedParameter at → Among (InOperation RepeatedParameter) (operations_of (plain_source s)) at
@@ -165,7 +163,7 @@ module _ (s : Source) where
   original_to at (removes_class c) there (inl h) = absurd h
   original_to at (removes_class c) there (inr h) = absurd h
 
-  pub least_original_outside : (o : Option ℕ) → IsLeastPlace (Among (λ d. Among (λ o. InOperation OriginalOutside (plain_operation s.names s.exprs o)) d.ops) s.deltas) o → IsLeastPlace (FaultStands (plain_source s) line.OriginalOutside) o
+  least_original_outside : (o : Option ℕ) → IsLeastPlace (Among (λ d. Among (λ o. InOperation OriginalOutside (plain_operation s.names s.exprs o)) d.ops) s.deltas) o → IsLeastPlace (FaultStands (plain_source s) line.OriginalOutside) o
   least_original_outside o is = least_same o (λ at h. let op = all_to (InOperation OriginalOutside) at h in original_to at op.0 op.1 op.2) (λ at h. all_from (InOperation OriginalOutside) at (back at h)) is
     where
       back : (at : ℕ) → FaultStands (plain_source s) line.OriginalOutside at → Among (InOperation OriginalOutside) (operations_of (plain_source s)) at
@@ -184,7 +182,7 @@ module _ (s : Source) where
   operation_to at (removes_class c) there (inl h) = absurd h
   operation_to at (removes_class c) there (inr h) = absurd h
 
-  pub least_repeated_operation : (o : Option ℕ)
+  least_repeated_operation : (o : Option ℕ)
       → IsLeastPlace (λ at. Among (λ d. Repeats (map class_name (map (plain_operation s.names s.exprs) d.ops))) s.deltas at ⊎ Among (λ d. Among (λ o. InOperation RepeatedOperation (plain_operation s.names s.exprs o)) d.ops) s.deltas at) o
       → IsLeastPlace (FaultStands (plain_source s) line.RepeatedOperation) o
   least_repeated_operation o is = least_same o to back is
@@ -201,6 +199,24 @@ module _ (s : Source) where
           inl (d.0, d.1, subst (λ (x : plain.Delta). Repeats (map class_name x.operations) at) (sym d.2) h)
       back at (repeated_field_operation c place within h) = inr (all_from (InOperation RepeatedOperation) at (modifies_class c, change_within c within, inl (inl h)))
       back at (repeated_method_operation c place within h) = inr (all_from (InOperation RepeatedOperation) at (modifies_class c, change_within c within, inl (inr h)))
+
+  -- ---- all four
+
+  -- a fault that no two operations on one class are
+  of_one_operation : (fault : Inside) → ((ops : List plain.Operation) (at : ℕ) → ClassTwice fault ops at → ⊥) → (o : Option ℕ) → IsLeastPlace (Among (λ d. InOperations (plain_operation s.names s.exprs) fault d.ops) s.deltas) o
+      → IsLeastPlace (Among (λ d. Among (λ o. InOperation fault (plain_operation s.names s.exprs o)) d.ops) s.deltas) o
+  of_one_operation fault never o is =
+      least_same o (λ at h. (h.0, h.1, either h.2 (λ two. absurd (never _ at two)) (λ one. one))) (λ at h. (h.0, h.1, inr h.2)) is
+
+  pub least_inside : (fault : Inside) (o : Option ℕ) → IsLeastPlace (Among (λ d. InOperations (plain_operation s.names s.exprs) fault d.ops) s.deltas) o
+      → IsLeastPlace (FaultStands (plain_source s) (line_fault fault)) o
+  least_inside RepeatedOperation o is =
+      least_repeated_operation o
+      (least_same o (λ at h. either h.2 (λ two. inl (h.0, h.1, two)) (λ one. inr (h.0, h.1, one)))
+      (λ at h. either h (λ two. (two.0, two.1, inl two.2)) (λ one. (one.0, one.1, inr one.2))) is)
+  least_inside RepeatedMember o is = least_repeated_member o (of_one_operation RepeatedMember (λ ops at h. h) o is)
+  least_inside RepeatedParameter o is = least_repeated_parameter o (of_one_operation RepeatedParameter (λ ops at h. h) o is)
+  least_inside OriginalOutside o is = least_original_outside o (of_one_operation OriginalOutside (λ ops at h. h) o is)
 
   pub least_reserved_class : (o : Option ℕ) → IsLeastPlace (Among (λ d. Among (λ o. OnObject (plain_operation s.names s.exprs o)) d.ops) s.deltas) o → IsLeastPlace (FaultStands (plain_source s) line.ReservedClass) o
   least_reserved_class o is =

@@ -10,10 +10,24 @@ use Rattle.dj_tree.specs.declared.expression.ExprNode.TheVariants.{Variable, Thi
 use Rattle.dj_calculus.specs.Formulas.{names_in}
 use Rattle.dj_calculus.specs.Configurations.{is_named}
 use Rattle.dj_calculus.specs.Contents.{class_name, field_name, method_name}
+use Rattle.dj_calculus.specs.Faults as line
+use Rattle.dj_calculus.specs.Faults.{Fault}
 use Rattle.dj_calculus.specs.FaultPlaces.{Repeats}
-use Rattle.dj_faults.specs.declared.operations.Inside.{Inside}
-use Rattle.dj_faults.specs.declared.operations.Inside.TheVariants.{RepeatedOperation, RepeatedMember, RepeatedParameter, OriginalOutside}
 use Rattle.dj_faults.specs.LeastPlace.{Among}
+
+-- the faults that stand in operations of deltas
+pub data Inside : Type 0 where
+  RepeatedOperation : Inside
+  RepeatedMember : Inside
+  RepeatedParameter : Inside
+  OriginalOutside : Inside
+
+-- these faults among all
+abbrev pub line_fault : Inside → Fault
+line_fault RepeatedOperation = line.RepeatedOperation
+line_fault RepeatedMember = line.RepeatedMember
+line_fault RepeatedParameter = line.RepeatedParameter
+line_fault OriginalOutside = line.OriginalOutside
 
 -- a node of a formula is a feature that isn't known
 abbrev pub UnknownIn : (ℕ → Bool) → FormulaNode → ℕ → Type 0
@@ -86,6 +100,17 @@ InMethods fault (removes_class c) at = ⊥
 -- a fault in an operation
 abbrev pub InOperation : Inside → Operation → ℕ → Type 0
 InOperation fault operation at = Twice fault operation at ⊎ InMethods fault operation at
+
+-- operations of a delta on one class
+abbrev pub ClassTwice : Inside → List Operation → ℕ → Type 0
+ClassTwice RepeatedOperation operations at = Repeats (map class_name operations) at
+ClassTwice RepeatedMember operations at = ⊥
+ClassTwice RepeatedParameter operations at = ⊥
+ClassTwice OriginalOutside operations at = ⊥
+
+-- a fault in the operations of a delta, of which `plain` gives the plain ones
+abbrev pub InOperations : {X : Type 0} → (X → Operation) → Inside → List X → ℕ → Type 0
+InOperations plain fault operations at = ClassTwice fault (map plain operations) at ⊎ Among (λ o. InOperation fault (plain o)) operations at
 
 -- the operation is on `Object`
 abbrev pub OnObject : Operation → ℕ → Type 0

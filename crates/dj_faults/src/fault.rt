@@ -5,18 +5,18 @@ ghost use Rattle.dj_tree.specs.WellFormed.{IsWellFormed};
 ghost use Rattle.dj_calculus.specs.Accepted.{FirstFault, IsAccepted};
 ghost use Rattle.dj_calculus.specs.Faults.{Fault, fault_rank};
 ghost use Rattle.dj_calculus.specs.FaultPlaces.{FaultStands};
-ghost use Rattle.dj_names.specs.Texts.{AreDistinct};
 ghost use Rattle.dj_faults.specs.LeastPlace.{IsLeastPlace};
+ghost use Rattle.dj_faults.specs.Inside.{line_fault};
 ghost use Rattle.dj_faults.specs.LineFaults.{fault_of};
 ghost use Rattle.dj_faults.specs.Numbers.{IsSound};
+ghost use Rattle.dj_faults.specs.Places.{AreLeast};
 
-use crate::classes::{
-    original_outside, repeated_member, repeated_operation, repeated_parameter, reserved_class,
-};
+use crate::classes::reserved_class;
 use crate::deltas::{delta_not_placed, delta_placed_twice, repeated_delta, unknown_delta};
 use crate::features::{repeated_feature, too_many_features, unknown_feature};
+use crate::operations::{Places, in_deltas};
 use crate::parts::{parts_no_chain, repeated_part, unknown_part};
-use dj_names::Names;
+use dj_names::names_are_distinct;
 use dj_tree::Source;
 use std::alloc::{AllocError as NoMemory, Global};
 
@@ -82,24 +82,25 @@ pub fn first_fault(alloc: Global, source: &Source) -> Result<Option<(LineFault, 
     ensures first { IfOk result (λ found. IfSome found (λ f. FirstFault (plain_source source.now) (fault_of f.0) f.1)) }
 {
     names_are_distinct(&source.names);
+    let inside = in_deltas(alloc, source)?;
     for fault in FAULTS {
-        if let Some(at) = least_place(alloc, source, fault)? {
+        if let Some(at) = least_place(alloc, source, inside, fault)? {
             return Ok(Some((fault, at)));
         }
     }
     Ok(None)
 }
 
-// The names of a table are distinct.
-pub fn names_are_distinct(names: &Names)
-    ensures { AreDistinct names.now }
-{
-    let _ = names.find("");
-}
-
-// The least place at which a fault stands, where none that is looked for before it stands anywhere.
-fn least_place(alloc: Global, source: &Source, fault: LineFault) -> Result<Option<u32>, NoMemory>
+// The least place at which a fault stands, where none that is looked for before it stands anywhere. `inside` has
+// those of faults in operations.
+fn least_place(
+    alloc: Global,
+    source: &Source,
+    inside: Places,
+    fault: LineFault,
+) -> Result<Option<u32>, NoMemory>
     requires sound { IsSound source.now }
+    requires inside { AreLeast (λ other. FaultStands (plain_source source.now) (line_fault other)) inside }
     requires earlier { (other : Fault) (at : ℕ) → fault_rank other < fault_rank (fault_of fault) → ¬ FaultStands (plain_source source.now) other at }
     ensures { IfOk result (IsLeastPlace (FaultStands (plain_source source.now) (fault_of fault))) }
 {
@@ -114,10 +115,10 @@ fn least_place(alloc: Global, source: &Source, fault: LineFault) -> Result<Optio
         LineFault::RepeatedPart => repeated_part(alloc, source),
         LineFault::UnknownPart => unknown_part(alloc, source),
         LineFault::PartsNoChain => parts_no_chain(alloc, source),
-        LineFault::RepeatedOperation => repeated_operation(alloc, source),
-        LineFault::RepeatedMember => repeated_member(alloc, source),
-        LineFault::RepeatedParameter => repeated_parameter(alloc, source),
+        LineFault::RepeatedOperation => Ok(inside.repeated_operation),
+        LineFault::RepeatedMember => Ok(inside.repeated_member),
+        LineFault::RepeatedParameter => Ok(inside.repeated_parameter),
         LineFault::ReservedClass => Ok(reserved_class(source)),
-        LineFault::OriginalOutside => original_outside(alloc, source),
+        LineFault::OriginalOutside => Ok(inside.original_outside),
     }
 }

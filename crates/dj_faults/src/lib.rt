@@ -10,8 +10,6 @@ mod numbers;
 mod operations;
 mod parts;
 mod spots;
-#[cfg(test)]
-mod tests;
 mod trees;
 
 pub use fault::{LineFault, first_fault};

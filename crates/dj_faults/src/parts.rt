@@ -12,9 +12,9 @@ ghost use Rattle.dj_faults.specs.LeastPlace.{IsLeastPlace};
 ghost use Rattle.dj_faults.specs.Numbers.{IsSound};
 ghost use Rattle.dj_faults.specs.Chains.{comes_after_name, IsNumberOf};
 
-use crate::fault::names_are_distinct;
 use crate::numbers::{repeated, unknown};
 use crate::spots::{after_names, part_names};
+use dj_names::names_are_distinct;
 use dj_tree::{PartDecl, Source, Spot};
 use indexmap::IndexMap;
 use std::alloc::{AllocError as NoMemory, Global};

@@ -30,11 +30,10 @@ pub fn read_formula<'a>(
     };
     let mut rest = tokens;
     'tokens: while let [token, behind @ ..] = rest {
-        match step(bytes, &mut machine, *token) {
-            Ok(Turn::Goes) => rest = behind,
-            Ok(Turn::Ends) => return Ok((machine.marks, rest)),
-            Ok(Turn::Stops) => return Err(ReadError::Syntax(rest)),
-            Err(_) => return Err(ReadError::NoMemory),
+        match step(bytes, &mut machine, *token)? {
+            Turn::Goes => rest = behind,
+            Turn::Ends => return Ok((machine.marks, rest)),
+            Turn::Stops => return Err(ReadError::Syntax(rest)),
         }
     }
     Err(ReadError::Syntax(rest))

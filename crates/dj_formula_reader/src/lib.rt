@@ -5,8 +5,6 @@ mod formula;
 mod laws;
 mod machine;
 mod steps;
-#[cfg(test)]
-mod tests;
 
 pub use formula::read_formula;
 pub use laws::{formulas_are_read, one_formula};

@@ -7,7 +7,7 @@ use Rattle.dj_lexer.specs.declared.token.LexFault.{LexFault}
 use Rattle.dj_lexer.specs.declared.token.LexFault.TheVariants.{NotUtf8, BadCharacter, OpenComment, TooDeep}
 use Rattle.dj_lexer.proofs.AnswerLemmas.{byte_len-append}
 use Rattle.std.proofs.lemmas.Str.{encodes-chars}
-use Rattle.dj_report.specs.Refusals.{lex_place}
+use Rattle.dj_refusals.specs.Refusals.{lex_place}
 
 within : {dialect : Dialect} {depth at : ℕ} {text : List ℕ} {fault : LexFault} → FaultFrom dialect depth at text fault → lex_place fault ≤ at + byte_len text
 within (bad_character depth at c rest no_piece) = omega arith

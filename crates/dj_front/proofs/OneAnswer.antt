@@ -13,7 +13,7 @@ use Rattle.dj_declarations.specs.Laws.{OneSource}
 use Rattle.dj_calculus.specs.Accepted.{FirstFault}
 use Rattle.dj_calculus.specs.Laws.{OneFirstFault}
 use Rattle.dj_faults.specs.LineFaults.{fault_of}
-use Rattle.dj_report.specs.declared.refusal.Refusal.TheVariants.{Lex, Syntax, Line}
+use Rattle.dj_refusals.specs.declared.refusal.Refusal.TheVariants.{Lex, Syntax, Line}
 use Rattle.dj_front.specs.Files.{HasTokenList, too_long, no_tokens, no_source, at_fault}
 use Rattle.dj_front.specs.Laws.{OneLine, OneRefusal, NoRefusedLine}
 use Rattle.dj_line.proofs.SourceAnswers.{same_code}

@@ -7,9 +7,9 @@ use Rattle.dj_lexer.specs.declared.token.Dialect.TheVariants as dialect
 use Rattle.dj_lexer.specs.declared.token.Token.{Token}
 use Rattle.dj_parser.specs.Refusals.{IsLineRefusedAt, at_symbol, at_end}
 use Rattle.dj_faults.specs.LineFaults.{fault_of}
-use Rattle.dj_report.specs.Places.{IsTokenAt}
-use Rattle.dj_report.specs.Refusals.{IsWithin, IsNamed}
-use Rattle.dj_report.specs.declared.refusal.Refusal.{Refusal}
+use Rattle.dj_lexer.specs.TokensAt.{IsTokenAt}
+use Rattle.dj_refusals.specs.Refusals.{IsWithin, IsNamed}
+use Rattle.dj_refusals.specs.declared.refusal.Refusal.{Refusal}
 use Rattle.dj_front.specs.Files.{HasTokenList, IsRefusedFor, too_long, no_tokens, no_source, at_fault}
 use Rattle.dj_front.proofs.FaultSpots.{fault_at_symbol}
 use Rattle.dj_front.proofs.LexPlaces.{fault_within}
@@ -31,14 +31,13 @@ module _ (spans : TokensAreSpans) (bytes : List ℕ) (tokens : List Token) (has 
       symbol_within s (subst P (sym is) (Contains-append_right front (s ∷ rest) s (0, omega arith, refl)))
   place_within _ (at_end viable not_whole) = omega arith
 
-  token_said : (s : Symbol) (place : ℕ) → Contains (symbols_of bytes tokens) s → s.at ≡ place → IsTokenAt dialect.Line bytes place s.text
+  token_said : (s : Symbol) (place : ℕ) → Contains (symbols_of bytes tokens) s → s.at ≡ place → IsTokenAt bytes place s.text
   token_said s place among here =
       let found = mapped_from (symbol_of bytes) tokens s among in
       record {
-        short = has.short;
+        dialect = dialect.Line;
         tokens = tokens;
         are_tokens = has.lexed;
-        shallow = has.shallow;
         token = found.0;
         among = found.1;
         begins = subst (λ x. found.0.from ≡ x) here (ap (λ x. x.at) found.2);

@@ -16,8 +16,8 @@ use Rattle.dj_parser.specs.Refusals.{IsLineRefusedAt}
 use Rattle.dj_calculus.specs.Accepted.{FirstFault as FirstLineFault, IsAccepted}
 use Rattle.dj_faults.specs.LineFaults.{fault_of}
 use Rattle.dj_faults.specs.declared.fault.LineFault.{LineFault}
-use Rattle.dj_report.specs.declared.refusal.Refusal.{Refusal}
-use Rattle.dj_report.specs.declared.refusal.Refusal.TheVariants.{TooLong, Lex, Syntax, Line}
+use Rattle.dj_refusals.specs.declared.refusal.Refusal.{Refusal}
+use Rattle.dj_refusals.specs.declared.refusal.Refusal.TheVariants.{TooLong, Lex, Syntax, Line}
 use Rattle.dj_front.specs.declared.reading.FileError.{FileError}
 use Rattle.dj_front.specs.declared.reading.FileError.TheVariants.{Refused, NoMemory}
 

@@ -4,8 +4,8 @@ use Rattle.dj_names.specs.Texts.{Text}
 use Rattle.dj_tree.specs.Trees.{Source}
 use Rattle.dj_calculus.specs.Tables.{Table, SameTable}
 use Rattle.dj_calculus.specs.JavaFiles.{IsJava}
-use Rattle.dj_report.specs.declared.refusal.Refusal.{Refusal}
-use Rattle.dj_report.specs.Refusals.{IsWithin, IsNamed}
+use Rattle.dj_refusals.specs.declared.refusal.Refusal.{Refusal}
+use Rattle.dj_refusals.specs.Refusals.{IsWithin, IsNamed}
 use Rattle.dj_front.specs.Files.{IsLineFile, IsRefusedFor}
 
 abbrev pub OneLine : Type 0

@@ -6,7 +6,7 @@ ghost use Rattle.dj_tree.specs.Trees.{Source as PlainSource};
 ghost use Rattle.dj_tree.specs.Plain.{plain_source};
 ghost use Rattle.dj_tree.specs.WellFormed.{IsWellFormed};
 ghost use Rattle.dj_tree.specs.Spells.{Spells, Laid};
-ghost use Rattle.dj_report.specs.declared.refusal.Refusal.{Refusal as FileRefusal};
+ghost use Rattle.dj_refusals.specs.declared.refusal.Refusal.{Refusal as FileRefusal};
 ghost use Rattle.dj_line.specs.Lines.{plain_line};
 ghost use Rattle.dj_front.specs.Files.{HasTokenList, IsLineFile, IsRefusedFor, IsFileError, lex_error};
 
@@ -14,7 +14,7 @@ use crate::laws::one_answer;
 use dj_lexer::{Dialect, LexError, LexFault, Tokens, lex};
 use dj_line::{Line, LineError, accept};
 use dj_parser::{ParseError, parse};
-use dj_report::Refusal;
+use dj_refusals::Refusal;
 use dj_tree::Source;
 use std::alloc::Global;
 

@@ -1,7 +1,7 @@
 use super::*;
 use dj_faults::LineFault;
 use dj_line::{ConfigError, Line};
-use dj_report::Refusal;
+use dj_refusals::Refusal;
 use std::alloc::{AllocError, Global};
 use std::process::Abort;
 use std::test::Fail;

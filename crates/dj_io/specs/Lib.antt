@@ -1,5 +1,4 @@
 pub mod Count
-pub mod Written
 pub mod Contents
 pub mod FailingFiles
 pub mod BoundedOutput

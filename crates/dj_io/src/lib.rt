@@ -19,6 +19,3 @@ pub use sink::Sink;
 pub use sure_files::SureFiles;
 pub use sure_sink::SureSink;
 pub use whole::{ReadError, read_whole};
-
-#[cfg(test)]
-mod tests;

@@ -1,7 +1,7 @@
 // A sink in memory that fails at chosen calls.
 ghost use Rattle.std.specs.Prelude.{◌≡◌, ◌≤◌, ◌+◌, ◌==◌, ◌++◌, List, [], ℕ, Some, length, take, find, option_map, is_err, IfOk, OnOk, OnErr};
 ghost use Rattle.dj_io.specs.Count.{Follows, Rises, one_more};
-ghost use Rattle.dj_io.specs.Written.{Appends};
+ghost use Rattle.std.specs.Io.KnownBytes.{Keeps, append_known};
 
 use crate::calls::is_next;
 use crate::{Failed, Sink};
@@ -87,9 +87,9 @@ impl Sink for MemorySink {
         ensures calls { self.new.calls ≡ one_more self.old.calls }
         ensures raised { OnErr result (self.new.faults ≡ one_more self.old.faults) }
 
-        ensures whole { OnOk result (Appends piece.now (Some self.old.bytes) (Some self.new.bytes)) }
+        ensures whole { OnOk result (Keeps (Some self.new.bytes) (append_known (Some self.old.bytes) piece.now)) }
         ensures part { OnErr result ((kept : ℕ) × (kept ≤ length piece.now)
-            × Appends (take kept piece.now) (Some self.old.bytes) (Some self.new.bytes)) }
+            × Keeps (Some self.new.bytes) (append_known (Some self.old.bytes) (take kept piece.now))) }
         ensures no_fault { OnOk result (self.new.faults ≡ self.old.faults) }
         ensures failed { OnErr result (Rises self.old.faults self.new.faults) }
         ensures counts { Follows self.old.faults self.new.faults }

@@ -1,7 +1,7 @@
 // Where output goes: pieces that are appended, and a count of faults.
 ghost use Rattle.std.specs.Prelude.{◌≡◌, ◌≤◌, List, ℕ, Option, length, take, OnOk, OnErr};
 ghost use Rattle.dj_io.specs.Count.{Follows, Rises};
-ghost use Rattle.dj_io.specs.Written.{Appends};
+ghost use Rattle.std.specs.Io.KnownBytes.{Keeps, append_known};
 
 use crate::Failed;
 
@@ -13,11 +13,12 @@ pub trait Sink {
     /// How often writing has failed: a count that never falls, and stays at its greatest value.
     ghost faults: { Self → ℕ };
 
-    /// Appends the whole piece. `Failed` may leave a prefix of it appended.
+    /// Appends the whole piece. `Failed` may leave a prefix of it appended. What the object still tells is what it
+    /// told before with this behind it.
     fn put(&mut self, piece: &[u8]) -> Result<(), Failed>
-        ensures whole { OnOk result (Appends piece.now (written self.old) (written self.new)) }
+        ensures whole { OnOk result (Keeps (written self.new) (append_known (written self.old) piece.now)) }
         ensures part { OnErr result ((kept : ℕ) × (kept ≤ length piece.now)
-            × Appends (take kept piece.now) (written self.old) (written self.new)) }
+            × Keeps (written self.new) (append_known (written self.old) (take kept piece.now))) }
 
         ensures no_fault { OnOk result (faults self.new ≡ faults self.old) }
         ensures failed { OnErr result (Rises (faults self.old) (faults self.new)) }

@@ -1,7 +1,7 @@
 // A sink in memory that never fails.
 ghost use Rattle.std.specs.Prelude.{◌≡◌, ◌≤◌, ◌+◌, ◌-◌, ◌++◌, List, [], ℕ, length, take, min, vec_len, IsOk, IfOk, IfSome, OnOk};
 ghost use Rattle.dj_io.specs.Count.{greatest_count};
-ghost use Rattle.dj_io.specs.Written.{Appends};
+ghost use Rattle.std.specs.Io.KnownBytes.{Keeps, append_known};
 ghost use Rattle.dj_io.specs.BoundedOutput.{fitting, told};
 
 use crate::{Failed, Sink};
@@ -60,7 +60,7 @@ impl Sink for SureSink {
         ensures kept { self.new.bytes ≡ self.old.bytes ++ take (fitting self.old.bytes self.old.room (length piece.now)) piece.now }
         ensures past { self.new.past ≡ min (self.old.past + (length piece.now - fitting self.old.bytes self.old.room (length piece.now))) greatest_count }
         ensures room { self.new.room ≡ self.old.room }
-        ensures whole { OnOk result (Appends piece.now (told self.old) (told self.new)) }
+        ensures whole { OnOk result (Keeps (told self.new) (append_known (told self.old) piece.now)) }
     {
         let kept = piece.len().min(self.room - self.bytes.len());
         self.bytes.extend_from_slice(&piece[..kept]).unwrap();

@@ -27,7 +27,7 @@ use Rattle.dj_lexer.specs.declared.token.LexFault.{LexFault}
 use Rattle.dj_lexer.specs.declared.token.LexFault.TheVariants.{NotUtf8, BadCharacter, OpenComment, TooDeep}
 use Rattle.dj_lexer.proofs.PieceLemmas.{piece_unique, open_no_piece, piece_not_empty}
 
-piece_not_nil : {dialect : Dialect} {k : Option TokenKind} {p r : List ℕ} → Piece dialect k p r → [] ≡ p ++ r → ⊥
+pub piece_not_nil : {dialect : Dialect} {k : Option TokenKind} {p r : List ℕ} → Piece dialect k p r → [] ≡ p ++ r → ⊥
 piece_not_nil {r = r} x e =
     let front = piece_not_empty x in
     let nil : [] ≡ front.0 ∷ (front.1 ++ r) = e ∙ ap (λ t. t ++ r) front.2 in

@@ -42,7 +42,7 @@ reached_start dialect text list e =
     subst (λ ts. Reached dialect text text 0 ts) (sym e) start
 
 -- the bytes of a piece
-piece_bytes : {dialect : Dialect} {kind : Option TokenKind} (rest after : List ℕ) → IsUtf8 rest → (p : HasPiece dialect kind rest after)
+pub piece_bytes : {dialect : Dialect} {kind : Option TokenKind} (rest after : List ℕ) → IsUtf8 rest → (p : HasPiece dialect kind rest after)
     → rest ≡ encode_utf8_all p.piece ++ after
 piece_bytes rest after u p =
     sym (encodes-chars rest u) ∙ ap encode_utf8_all p.splits ∙ encodes-append p.piece (chars after)

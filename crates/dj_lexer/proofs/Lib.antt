@@ -3,3 +3,4 @@ pub mod AnswerLemmas
 pub mod FrontLemmas
 pub mod LexerLemmas
 pub mod TotalLemmas
+pub mod TokenAtLemmas

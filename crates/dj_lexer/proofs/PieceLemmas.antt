@@ -14,7 +14,7 @@ use Rattle.dj_lexer.specs.declared.token.TokenKind.{TokenKind}
 
 -- ---- runs
 
-run_unique : (test : ℕ → Bool) (a b x y : List ℕ) → AllPass test a → FirstFails test x → AllPass test b → FirstFails test y
+pub run_unique : (test : ℕ → Bool) (a b x y : List ℕ) → AllPass test a → FirstFails test x → AllPass test b → FirstFails test y
     → a ++ x ≡ b ++ y → (a ≡ b) × (x ≡ y)
 run_unique test [] [] x y pa fx pb fy e = (refl, e)
 run_unique test [] (d ∷ b) x y pa fx pb fy e =
@@ -54,7 +54,7 @@ close_unique (c ∷ a) (d ∷ b) x y na nb e =
 
 -- ---- symbols
 
-cut_same : (a b x y : List ℕ) → length a ≡ length b → a ++ x ≡ b ++ y → (a ≡ b) × (x ≡ y)
+pub cut_same : (a b x y : List ℕ) → length a ≡ length b → a ++ x ≡ b ++ y → (a ≡ b) × (x ≡ y)
 cut_same [] [] x y l e = (refl, e)
 cut_same [] (d ∷ b) x y l e = absurd (omega arith)
 cut_same (c ∷ a) [] x y l e = absurd (omega arith)
@@ -124,12 +124,17 @@ not_true : (b : Bool) → not b ≡ true → b ≡ false
 not_true true h = absurd (false≢true h)
 not_true false h = refl
 
-symbol_first : (dialect : Dialect) (c : ℕ) (text : List ℕ) → begins_symbol dialect (c ∷ text) ≡ true
+pub symbol_first : (dialect : Dialect) (c : ℕ) (text : List ℕ) → begins_symbol dialect (c ∷ text) ≡ true
     → (starts_word dialect c ≡ false) × (is_white_space c ≡ false) × ((c == 47) ≡ false)
 symbol_first dialect c text h =
     let parts = and_parts (not (starts_word dialect c) && not (is_white_space c)) (not (c == 47)) h in
     let two = and_parts (not (starts_word dialect c)) (not (is_white_space c)) parts.0 in
     (not_true _ two.0, not_true _ two.1, not_true _ parts.1)
+
+pub symbol_class : (dialect : Dialect) (text rest : List ℕ) → begins_symbol dialect text ≡ true → class dialect (text ++ rest) ≡ 4
+symbol_class dialect [] rest h = absurd (false≢true h)
+symbol_class dialect (c ∷ text) rest h =
+    let parts = symbol_first dialect c text h in rw (parts.0, parts.1, parts.2) refl
 
 pub class_is : {dialect : Dialect} {kind : Option TokenKind} {piece rest : List ℕ} (p : Piece dialect kind piece rest)
     → class dialect (piece ++ rest) ≡ piece_class p
@@ -138,11 +143,6 @@ class_is {dialect} (line_comment body rest p f) = rw (no_words dialect).5 refl
 class_is {dialect} (block_comment body rest n) = rw (no_words dialect).5 refl
 class_is {dialect} (word first more rest s p f n) = rw s refl
 class_is {dialect} (symbol text rest m l) = symbol_class dialect text rest (symbol_begins dialect text m)
-  where
-    symbol_class : (dialect : Dialect) (text rest : List ℕ) → begins_symbol dialect text ≡ true → class dialect (text ++ rest) ≡ 4
-    symbol_class dialect [] rest h = absurd (false≢true h)
-    symbol_class dialect (c ∷ text) rest h =
-        let parts = symbol_first dialect c text h in rw (parts.0, parts.1, parts.2) refl
 
 block_text : (body rest : List ℕ) → (codes "/*" ++ (body ++ codes "*/")) ++ rest ≡ 47 ∷ 42 ∷ (body ++ (42 ∷ 47 ∷ rest))
 block_text body rest = ap (λ t. 47 ∷ 42 ∷ t) (append_assoc body (codes "*/") rest)

@@ -4,6 +4,7 @@ use Rattle.std.specs.List.Sorted.{IsStrictlyIncreasing}
 use Rattle.dj_lexer.specs.Tokens.{TokenList}
 use Rattle.dj_lexer.specs.Symbols.{IsToken, symbols_of}
 use Rattle.dj_lexer.specs.Faults.{FirstFault, HasTokens}
+use Rattle.dj_lexer.specs.TokensAt.{IsTokenAt}
 use Rattle.dj_lexer.specs.declared.token.Dialect.{Dialect}
 use Rattle.dj_lexer.specs.declared.token.Token.{Token}
 use Rattle.dj_lexer.specs.declared.token.LexFault.{LexFault}
@@ -40,3 +41,7 @@ TokensAreFew = (dialect : Dialect) (bytes : List ℕ) (tokens : List Token) → 
 -- bytes have tokens, with no more brackets open at once than may be, or a first fault
 abbrev pub TokensOrFault : Type 0
 TokensOrFault = (dialect : Dialect) (bytes : List ℕ) → HasTokens dialect bytes ⊎ ((fault : LexFault) × FirstFault dialect bytes fault)
+
+-- at an offset begins at most one token, whichever dialect it is of
+abbrev pub OneTokenAt : Type 0
+OneTokenAt = (bytes : List ℕ) (at : ℕ) (a b : List ℕ) → IsTokenAt bytes at a → IsTokenAt bytes at b → a ≡ b

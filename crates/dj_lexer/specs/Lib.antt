@@ -4,4 +4,5 @@ pub mod Tokens
 pub mod Symbols
 pub mod Faults
 pub mod Pieces
+pub mod TokensAt
 pub mod Laws

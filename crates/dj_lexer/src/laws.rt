@@ -1,9 +1,14 @@
 //! Laws of tokens and faults.
-ghost use Rattle.dj_lexer.specs.Laws.{OneTokenList, OneFirstFault, NoFaultInTokens, TokensOrFault, TokensAreSpans, TokensRise, TokensAreOfDialect, TokensAreFew};
+ghost use Rattle.dj_lexer.specs.Laws.{OneTokenList, OneTokenAt, OneFirstFault, NoFaultInTokens, TokensOrFault, TokensAreSpans, TokensRise, TokensAreOfDialect, TokensAreFew};
 
 /// A text has at most one list of tokens of a dialect.
 pub fn one_token_list()
     ensures { OneTokenList }
+{}
+
+/// At an offset of bytes begins at most one token, whichever dialect it is of.
+pub fn one_token_at()
+    ensures { OneTokenAt }
 {}
 
 /// Bytes have either tokens with no more than `MAX_DEPTH` brackets open at once, or one first fault.

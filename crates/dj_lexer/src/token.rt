@@ -1,7 +1,7 @@
 //! Tokens, and why a text has none.
-ghost use Rattle.std.specs.Prelude.{ℕ, List};
+ghost use Rattle.std.specs.Prelude.{◌≡◌, ℕ, List};
+ghost use Rattle.dj_lexer.specs.Symbols.{symbol_of};
 
-use std::alloc::{AllocError, AllocFailed};
 use std::marker::Model;
 use thiserror::Error;
 
@@ -35,6 +35,18 @@ pub struct Token {
     pub kind: TokenKind,
     pub from: u32,
     pub to: u32,
+}
+
+impl Token {
+    /// The bytes of the token, where `bytes` are those of its text. Of other bytes it gives those between the same
+    /// offsets, as far as there are any.
+    pub fn text(self, bytes: &[u8]) -> &[u8]
+        ensures { result.now ≡ (symbol_of bytes.now self).text }
+    {
+        let end = bytes.len().min(self.to as usize);
+        let from = end.min(self.from as usize);
+        &bytes[from..end]
+    }
 }
 
 /// The tokens of a text in order, and the length of the text in bytes.

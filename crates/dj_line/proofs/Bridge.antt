@@ -18,7 +18,7 @@ use Rattle.dj_calculus.specs.Accepted.{IsAccepted}
 use Rattle.dj_calculus.specs.Contents.{items_of}
 use Rattle.dj_calculus.specs.Parts.{chain}
 use Rattle.dj_calculus.proofs.Members.{mapped, mapped_within, filtered_from, either, within_flat, among_others, mapped_from, from_flat}
-use Rattle.dj_gates.proofs.Names.{number_of}
+use Rattle.dj_conditions.proofs.Names.{number_of}
 use Rattle.dj_line.specs.declared.tables.Placing.{Placing}
 use Rattle.dj_line.specs.Placing.{delta_number, numbers_of, numbers_along}
 use Rattle.dj_line.specs.Numbering.{number_by, HasItems, ArePlaced, StandsAt, when_formula, IsPlaced}

@@ -7,8 +7,8 @@ use Rattle.dj_calculus.specs.Accepted.{IsAccepted}
 use Rattle.dj_formula.specs.declared.formula.Formula.{Formula}
 use Rattle.dj_formula.specs.declared.formula.Gate.{Gate}
 use Rattle.dj_formula.specs.Value.{tree_of, HasFeaturesBelow}
-use Rattle.dj_gates.specs.Gates.{StandsFor, gates_of}
-use Rattle.dj_gates.proofs.GateFeatures.{features_below}
+use Rattle.dj_conditions.specs.Conditions.{StandsFor, gates_of}
+use Rattle.dj_conditions.proofs.GateFeatures.{features_below}
 use Rattle.dj_line.specs.Placing.{formula_of}
 use Rattle.dj_line.proofs.AcceptedLines.{meant_named}
 

@@ -14,7 +14,7 @@ use Rattle.dj_tree.specs.declared.declarations.Spot.{Spot}
 use Rattle.dj_calculus.specs.Configurations.{is_named}
 use Rattle.dj_line.specs.Naming.{IsNamedAt}
 use Rattle.dj_calculus.proofs.Members.{either}
-use Rattle.dj_gates.proofs.Names.{not_found}
+use Rattle.dj_conditions.proofs.Names.{not_found}
 use Rattle.dj_calculus.proofs.Counting.{got_within, number_in}
 use Rattle.dj_line.proofs.AcceptedLines.{named_one}
 

@@ -14,8 +14,8 @@ use Rattle.dj_tree.specs.declared.declarations.MemberOp.TheVariants.{AddsField, 
 use Rattle.dj_tree.specs.declared.declarations.ClassOp.{ClassOp}
 use Rattle.dj_tree.specs.declared.declarations.ClassOp.TheVariants.{Adds, Modifies, Removes}
 use Rattle.dj_formula.specs.declared.formula.Formula.{Formula}
-use Rattle.dj_gates.specs.Gates.{StandsFor}
-use Rattle.dj_gates.specs.Sets.{StandsFor-prop}
+use Rattle.dj_conditions.specs.Conditions.{StandsFor}
+use Rattle.dj_conditions.specs.Sets.{StandsFor-prop}
 use Rattle.dj_line.specs.Placing.{numbers_along, StandsIn, condition_of}
 
 -- the tables of a line: its features and deltas by the numbers of their names, the numbers of each part's deltas along the chain, the

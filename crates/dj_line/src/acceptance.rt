@@ -10,7 +10,7 @@ ghost use Rattle.dj_tree.specs.declared.declarations.PartDecl.{PartDecl};
 ghost use Rattle.dj_calculus.specs.Accepted.{IsAccepted, FirstFault};
 ghost use Rattle.dj_calculus.specs.Parts.{chain as chain_of_source};
 ghost use Rattle.dj_formula.specs.declared.formula.Formula.{Formula as FormulaOf};
-ghost use Rattle.dj_gates.specs.Gates.{StandsFor};
+ghost use Rattle.dj_conditions.specs.Conditions.{StandsFor};
 ghost use Rattle.dj_line.specs.declared.tables.Placing.{Placing as PlacingOf};
 ghost use Rattle.dj_faults.specs.declared.fault.LineFault.{LineFault as FaultOfLine};
 ghost use Rattle.dj_faults.specs.LineFaults.{fault_of};
@@ -23,10 +23,10 @@ use crate::errors::LineError;
 use crate::line::Line;
 use crate::tables::{Placing, delta_names, feature_names, item_numbers, place};
 use arena_walk::NodeId;
+use dj_conditions::{constant_true, formula_of};
 use dj_faults::{chain_of, first_fault};
 use dj_formula::Formula;
-use dj_gates::{constant_true, formula_of};
-use dj_names::Names;
+use dj_names::names_are_distinct;
 use dj_tree::{PartDecl, Source};
 use indexmap::IndexSet;
 use std::alloc::{AllocError as NoMemory, Global};
@@ -61,16 +61,9 @@ fn accepted(alloc: Global, source: Source) -> Result<Line, NoMemory>
     requires accepted { IsAccepted (plain_source source) }
     ensures { IfOk result (λ line. plain_line line ≡ plain_source source) }
 {
-    names_differ(&source.names);
+    names_are_distinct(&source.names);
     let chain = chain_of(alloc, &source)?;
     line_of(alloc, source, &chain)
-}
-
-// The names of a table are distinct, as each look-up tells.
-fn names_differ(names: &Names)
-    ensures { AreDistinct names.now }
-{
-    let _ = names.find("");
 }
 
 // The line of an accepted source. `chain` has the numbers of its parts, from 0, along the chain.

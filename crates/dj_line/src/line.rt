@@ -43,8 +43,9 @@ pub struct Line {
 impl Line {
     ghost use Rattle.std.specs.Prelude.{◌≡◌, ◌-◌, ◌<◌, ◌≤◌, Some, length, slice_get, IfSome, All};
     ghost use Rattle.std.specs.Option.{ForSome};
+    ghost use Rattle.arena_walk.specs.Tree.{nodes};
     ghost use Rattle.dj_formula.specs.Value.{tree_of, HasValue, HasFeaturesBelow};
-    ghost use Rattle.dj_gates.specs.Gates.{gates_of};
+    ghost use Rattle.dj_conditions.specs.Conditions.{gates_of};
     ghost use Rattle.dj_calculus.specs.Configurations.{Configuration, chosen};
     ghost use Rattle.dj_calculus.specs.Formulas.{value as plain_value};
     ghost use Rattle.dj_line.specs.Lines.{plain_line};
@@ -83,11 +84,13 @@ impl Line {
     }
 
     /// The formula of valid configurations (`None`), or the condition of the delta of a number, which is
-    /// constantly true where its item has none. Each feature stands in it by its number.
+    /// constantly true where its item has none. Each feature stands in it by its number, and its nodes are those of
+    /// the formula in post-order, so a node's number is its place in post-order.
     pub fn formula(&self, of: Option<u32>) -> &Formula
         requires { IfSome of (λ delta. delta < length (plain_line self.now).deltas) }
         ensures there { result.now.root.0 < length result.now.nodes }
         ensures tree { tree_of result.now ≡ Some (gates_of (plain_line self.now).features (formula_of (plain_line self.now) of)) }
+        ensures nodes { result.now.nodes ≡ nodes (gates_of (plain_line self.now).features (formula_of (plain_line self.now) of)) }
         ensures features { ForSome (tree_of result.now) (HasFeaturesBelow (length (plain_line self.now).features)) }
         ensures value { (c : Configuration) → HasValue result.now c (plain_value (chosen (plain_line self.now) c) (formula_of (plain_line self.now) of)) }
     {
@@ -100,7 +103,9 @@ impl Line {
     /// The number of the part, along the chain and from 1, that has an item of the delta.
     pub fn part_of(&self, delta: u32) -> u32
         requires { delta < length (plain_line self.now).deltas }
-        ensures { StandsIn (plain_line self.now) delta result }
+        ensures part { StandsIn (plain_line self.now) delta result }
+        ensures from_one { 1 ≤ result }
+        ensures within { result ≤ length (plain_line self.now).parts }
     {
         self.part_numbers[delta as usize]
     }

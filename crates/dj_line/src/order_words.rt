@@ -1,5 +1,5 @@
 //! Orders from words.
-ghost use Rattle.std.specs.Prelude.{◌≡◌, ◌≢◌, ◌↔◌, ◌<◌, List, map, length, IfOk, IsOk, MatchResult, MatchBool};
+ghost use Rattle.std.specs.Prelude.{◌≡◌, ◌≢◌, ◌↔◌, ◌<◌, List, map, All, length, IfOk, IsOk, MatchResult, MatchBool};
 ghost use Rattle.std.specs.List.Sorted.{IsPermutation};
 ghost use Rattle.dj_tree.specs.Trees.{Delta};
 ghost use Rattle.dj_calculus.specs.Products.{OrderFault, OrderWord, OrderWordFault};
@@ -21,6 +21,7 @@ impl Line {
         ensures answer { MatchResult result
             (λ order. OrderWord (plain_line self.now) config.now.chosen.items word.now (plain_order (plain_line self.now) order.deltas.items))
             (λ error. IsOrderWordError (plain_line self.now) config.now.chosen.items word.now error) }
+        ensures below { IfOk result (λ order. All (λ delta. delta < length (plain_line self.now).deltas) order.deltas.items) }
         ensures given { result ≢ Err OrderError.NoMemory
             → IsOk result ↔ ((order : List Delta) × OrderWord (plain_line self.now) config.now.chosen.items word.now order) }
         ensures refused { (fault : OrderFault) → result ≢ Err OrderError.NoMemory
@@ -31,7 +32,8 @@ impl Line {
 
     fn word_order(&self, alloc: Global, config: &Config, word: &str) -> Result<Order, OrderError>
         requires { length config.now.chosen.items ≡ length (plain_line self.now).features }
-        ensures { MatchResult result
+        ensures below { IfOk result (λ order. All (λ delta. delta < length (plain_line self.now).deltas) order.deltas.items) }
+        ensures answer { MatchResult result
             (λ order. OrderWord (plain_line self.now) config.now.chosen.items word.now (plain_order (plain_line self.now) order.deltas.items))
             (λ error. IsOrderWordError (plain_line self.now) config.now.chosen.items word.now error) }
     {

@@ -47,8 +47,8 @@ impl Line {
         Ok(active)
     }
 
-    // Whether the condition of a delta holds.
-    fn is_active(&self, alloc: Global, config: &Config, delta: u32) -> Result<bool, NoMemory>
+    /// Whether the condition of the delta of a number holds in a configuration.
+    pub fn is_active(&self, alloc: Global, config: &Config, delta: u32) -> Result<bool, NoMemory>
         requires features { length config.now.chosen.items ≡ length (plain_line self.now).features }
         requires below { delta < length (plain_line self.now).deltas }
         ensures { IfOk result (λ active. active ≡ is_active_in (plain_line self.now) config.now.chosen.items delta) }

@@ -6,7 +6,7 @@ ghost use Rattle.dj_line.specs.declared.tables.Placing.{Placing};
 ghost use Rattle.dj_line.specs.Numbering.{StandOnce, number_by, IsSetTo};
 
 use arena_walk::NodeId;
-use dj_gates::number_in;
+use dj_conditions::number_in;
 use dj_tree::{DeltaDecl, Item, Spot};
 use indexmap::IndexSet;
 use std::alloc::{AllocError as NoMemory, Global};

@@ -22,28 +22,3 @@ fn cut(alloc: Global, word: &str) -> Result<Vec<&str>, NoMemory>
 {
     word.split(',').collect(alloc)
 }
-
-#[cfg(test)]
-mod tests {
-    use super::*;
-    use std::test::Fail;
-
-    #[test]
-    fn words_have_pieces(rt: HostRuntime) -> Result<(), Fail> {
-        let rows: [(&str, &[&str]); 5] = [
-            ("-", &[]),
-            ("", &[""]),
-            ("A", &["A"]),
-            ("A,", &["A", ""]),
-            ("B,A,B", &["B", "A", "B"]),
-        ];
-        for (word, wanted) in rows {
-            let found = pieces(rt.alloc(), word)?;
-            assert_eq!(rt; found.len(), wanted.len(), "{word}");
-            for (piece, want) in found.iter().zip(wanted) {
-                assert!(rt; *piece == *want, "{word}");
-            }
-        }
-        Ok(())
-    }
-}

@@ -4,5 +4,5 @@
 mod names;
 mod place;
 
-pub use names::{Name, Names};
+pub use names::{Name, Names, names_are_distinct};
 pub use place::{Place, place_of};

@@ -75,21 +75,9 @@ impl Names {
     }
 }
 
-#[cfg(test)]
-mod tests {
-    use super::*;
-    use std::test::Fail;
-
-    #[test]
-    fn names_have_the_numbers_of_their_first_places(rt: HostRuntime) -> Result<(), Fail> {
-        let mut names = Names::new(rt.alloc());
-        assert_eq!(rt; names.add("a")?, Name(0));
-        assert_eq!(rt; names.add("b")?, Name(1));
-        let again = names.add("a")?;
-        assert_eq!(rt; again, Name(0));
-        assert_eq!(rt; names.text(again), "a");
-        assert_eq!(rt; names.find("b"), Some(Name(1)));
-        assert_eq!(rt; names.find("c"), None);
-        Ok(())
-    }
+/// The names of a table are distinct.
+pub fn names_are_distinct(names: &Names)
+    ensures { AreDistinct names.now }
+{
+    let _ = names.find("");
 }

@@ -49,33 +49,3 @@ fn begins_character(byte: u8) -> bool
 {
     !(0x80..=0xBF).contains(&byte)
 }
-
-#[cfg(test)]
-mod tests {
-    use super::*;
-
-    #[test]
-    fn places_count_line_ends_and_characters(rt: HostRuntime) {
-        let bytes = "a\r\nßx\ry\n\nz".as_bytes();
-        let rows = [
-            (0, 1, 1),
-            (1, 1, 2),
-            (2, 1, 3),
-            (3, 2, 1),
-            (5, 2, 2),
-            (6, 2, 3),
-            (7, 3, 1),
-            (9, 4, 1),
-            (10, 5, 1),
-            (11, 5, 2),
-        ];
-        for (offset, line, column) in rows {
-            assert!(rt; offset as usize <= bytes.len());
-            assert_eq!(rt;
-                place_of(bytes, offset),
-                Place { line, column },
-                "at {offset}"
-            );
-        }
-    }
-}

@@ -8,6 +8,3 @@ mod spot;
 pub use expression::{ExprNodes, add_expr};
 pub use formula::{FormulaNodes, add_formula};
 pub use spot::add_spot;
-
-#[cfg(test)]
-mod tests;

@@ -1,5 +1,5 @@
 //! Names from tokens.
-ghost use Rattle.std.specs.Prelude.{◌≡◌, ◌+◌, ◌-◌, ◌^◌, ◌<◌, ◌≤◌, length, slice_range, IfOk};
+ghost use Rattle.std.specs.Prelude.{◌≡◌, ◌+◌, ◌-◌, ◌^◌, ◌<◌, ◌≤◌, length, slice_range, IfOk, OnErr};
 ghost use Rattle.std.specs.Str.{IsUtf8};
 ghost use Rattle.dj_names.specs.Texts.{Extends};
 ghost use Rattle.dj_lexer.specs.Symbols.{symbol_of};
@@ -12,14 +12,12 @@ use dj_names::Names;
 use dj_tree::Spot;
 use std::alloc::AllocError as NoMemory;
 
-// The text of a token.
-fn text_of(bytes: &[u8], token: Token) -> &str
+// The text of a token as a `str`.
+fn utf8_text(bytes: &[u8], token: Token) -> &str
     requires { IsUtf8 (slice_range bytes.now token.from token.to) }
     ensures { result.now ≡ slice_range bytes.now token.from token.to }
 {
-    let end = bytes.len().min(token.to as usize);
-    let from = end.min(token.from as usize);
-    str::from_utf8(&bytes[from..end]).unwrap()
+    str::from_utf8(token.text(bytes)).unwrap()
 }
 
 /// The name that a token of a text says, which goes into the table where it is new, with the byte offset of the
@@ -29,10 +27,11 @@ pub fn add_spot(names: &mut Names, bytes: &[u8], token: Token) -> Result<Spot, N
     requires room { length names.old < 2 ^ 32 - 1 }
     ensures spot { IfOk result (λ s. plain_spot names.new s ≡ spot_of (symbol_of bytes.now token)) }
     ensures known { IfOk result (IsKnown names.new) }
+    ensures err { OnErr result (names.new ≡ names.old) }
     ensures numbers { Extends names.old names.new }
     ensures few { length names.new ≤ length names.old + 1 }
 {
-    let name = names.add(text_of(bytes, token))?;
+    let name = names.add(utf8_text(bytes, token))?;
     Ok(Spot {
         name,
         at: token.from,

@@ -6,7 +6,7 @@ use super::*;
 use arena_walk::NodeId;
 use dj_lexer::{Dialect, MAX_LENGTH, lex};
 use dj_names::Names;
-use dj_tree::{ExprNode, FormulaNode, JavaSource, Source, Spot};
+use dj_tree::{ExprNode, FormulaNode, JavaSource, Listed, Source, Spot};
 use std::alloc::{AllocError, Global};
 use std::process::Abort;
 use std::test::Fail;
@@ -226,6 +226,165 @@ fn texts_are_refused_at_places(rt: HostRuntime) -> Result<(), Fail> {
             "class A { A m() { return (x.f) = y; } }",
             Some(31),
         ),
+        (Dialect::Line, "line l { features f,; valid f; }", Some(20)),
+        (Dialect::Line, "line l { features f g; valid f; }", Some(20)),
+        (Dialect::Line, "line l { features f; valid f }", Some(29)),
+        (
+            Dialect::Line,
+            "line l { features; valid true; part p { d when; } }",
+            Some(46),
+        ),
+        (
+            Dialect::Line,
+            "line l { features; valid true; } part",
+            Some(33),
+        ),
+        (
+            Dialect::Line,
+            "line l { features; valid true; } delta d { adds A; }",
+            Some(48),
+        ),
+        (
+            Dialect::Line,
+            "line l { features; valid true; } delta d { removes method m; }",
+            Some(51),
+        ),
+        (
+            Dialect::Line,
+            "line l { features; valid true; } delta d { modifies class A { removes m; } }",
+            Some(70),
+        ),
+        (
+            Dialect::Line,
+            "line l { features; valid true; } delta d {",
+            Some(42),
+        ),
+        (Dialect::Line, "class A { }", Some(0)),
+        (Dialect::Line, "line L { features; valid A B; }", Some(27)),
+        (Dialect::Line, "line L { features; valid A & ; }", Some(29)),
+        (Dialect::Line, "line L { features; valid (A; }", Some(27)),
+        (Dialect::Line, "line L { features; valid A); }", Some(26)),
+        (Dialect::Line, "line L { features; valid & A; }", Some(25)),
+        (Dialect::Line, "line L { features; valid class; }", Some(25)),
+        (
+            Dialect::Line,
+            "line L { features; valid A & (B | } }",
+            Some(34),
+        ),
+        (
+            Dialect::Line,
+            "line L { features; valid true; } delta D { modifies class A { modifies A m() { return original(x, (y)).f; } } }",
+            None,
+        ),
+        (
+            Dialect::Line,
+            "line L { features; valid true; } delta D { modifies class A { modifies A m() { return (original()); } } }",
+            None,
+        ),
+        (
+            Dialect::Line,
+            "line L { features; valid true; } delta D { modifies class A { modifies A m() { return (A) original(x); } } }",
+            None,
+        ),
+        (
+            Dialect::Line,
+            "line L { features; valid true; } delta D { modifies class A { modifies A m() { return original; } } }",
+            None,
+        ),
+        (
+            Dialect::Line,
+            "line L { features; valid true; } delta D { modifies class A { modifies A m() { return (original) x; } } }",
+            None,
+        ),
+        (
+            Dialect::Java,
+            "class A { I m(I a,) { return a; } }",
+            Some(18),
+        ),
+        (Dialect::Java, "class A { I x }", Some(14)),
+        (Dialect::Java, "class A extends { }", Some(16)),
+        (Dialect::Java, "class A { I x;", Some(14)),
+        (Dialect::Java, "class A { } x", Some(12)),
+        (
+            Dialect::Java,
+            "class A { A m() { return x.f = y = z; } }",
+            Some(33),
+        ),
+        (
+            Dialect::Java,
+            "class A { A m() { return (x) = y; } }",
+            Some(29),
+        ),
+        (
+            Dialect::Java,
+            "class A { A m() { return x(y); } }",
+            Some(26),
+        ),
+        (
+            Dialect::Java,
+            "class A { A m() { return (x) y z; } }",
+            Some(31),
+        ),
+        (Dialect::Java, "class A { A m() { return (x; } }", Some(27)),
+        (
+            Dialect::Java,
+            "class A { A m() { return (x, y); } }",
+            Some(27),
+        ),
+        (Dialect::Java, "class A { A m() { return x); } }", Some(26)),
+        (
+            Dialect::Java,
+            "class A { A m() { return x, y; } }",
+            Some(26),
+        ),
+        (
+            Dialect::Java,
+            "class A { A m() { return x.m(y; } }",
+            Some(30),
+        ),
+        (
+            Dialect::Java,
+            "class A { A m() { return x.m(, y); } }",
+            Some(29),
+        ),
+        (
+            Dialect::Java,
+            "class A { A m() { return x.m(y,); } }",
+            Some(31),
+        ),
+        (Dialect::Java, "class A { A m() { return (); } }", Some(26)),
+        (Dialect::Java, "class A { A m() { return x.; } }", Some(27)),
+        (
+            Dialect::Java,
+            "class A { A m() { return x.class; } }",
+            Some(27),
+        ),
+        (
+            Dialect::Java,
+            "class A { A m() { return new A; } }",
+            Some(30),
+        ),
+        (
+            Dialect::Java,
+            "class A { A m() { return new A(x); } }",
+            Some(31),
+        ),
+        (
+            Dialect::Java,
+            "class A { A m() { return new (A)(); } }",
+            Some(29),
+        ),
+        (Dialect::Java, "class A { A m() { return ; } }", Some(25)),
+        (
+            Dialect::Java,
+            "class A { A m() { return class; } }",
+            Some(25),
+        ),
+        (
+            Dialect::Java,
+            "class A { A m() { return (A) original(x); } }",
+            Some(37),
+        ),
     ];
     for (dialect, text, place) in rows {
         assert_eq!(rt; place_of(rt.alloc(), text, dialect)?, place, "{text}");
@@ -350,6 +509,13 @@ fn beginnings_lack_their_rest(rt: HostRuntime) -> Result<(), Fail> {
 }
 
 #[test]
+fn lists_are_given_back(rt: HostRuntime) -> Result<(), Fail> {
+    let list = Listed::from_vec(vec![in rt.alloc(); 1, 2]?);
+    assert_eq!(rt; list.into_vec().as_slice(), [1, 2].as_slice());
+    Ok(())
+}
+
+#[test]
 fn formulas_have_their_nodes(rt: HostRuntime) -> Result<(), Fail> {
     let rows = [
         ("true", "true "),
@@ -358,6 +524,9 @@ fn formulas_have_their_nodes(rt: HostRuntime) -> Result<(), Fail> {
         ("A <-> B <-> C", "A B <-> C <-> "),
         ("!A & B | C -> A <-> B", "A ! B & C | A -> B <-> "),
         ("A || B && C", "A B C & | "),
+        ("A | B || C", "A B | C | "),
+        ("(A | false) & !!C", "A false | C ! ! & "),
+        ("(A -> B) -> C", "A B -> C -> "),
     ];
     for (formula, nodes) in rows {
         let text = format!(in rt.alloc(); "line L {{ features; valid {formula}; }}")?;
@@ -386,6 +555,14 @@ fn expressions_have_their_nodes(rt: HostRuntime) -> Result<(), Fail> {
         ("new C().m()", "new C .m() "),
         ("null", "null "),
         ("original", "original "),
+        ("(A) this.m(null).f", "this null .m(..) .f (A) "),
+        ("(((x)))", "x "),
+        ("x.f = (A) y.g", "x y .g (A) .f= "),
+        ("(A) (x.f = y)", "x y .f= (A) "),
+        ("x.m(y.f = z, w)", "x y z .f= w .m(..) "),
+        ("x.m(y.n(z)).f", "x y z .n(..) .m(..) .f "),
+        ("x.original(y)", "x y .original(..) "),
+        ("(original) x", "x (original) "),
     ];
     for (expr, nodes) in rows {
         let text = format!(in rt.alloc(); "class A {{ A m() {{ return {expr}; }} }}")?;

@@ -5,13 +5,11 @@ ghost use Rattle.dj_tree.specs.Plain.{plain_source};
 ghost use Rattle.dj_tree.specs.WellFormed.{IsOperation, IsWellFormed};
 ghost use Rattle.ifj_table.specs.CanonicalText.{canonical_text};
 ghost use Rattle.dj_line.specs.Lines.{plain_line};
-ghost use Rattle.dj_line.specs.Orders.{is_active as is_active_in};
 ghost use Rattle.dj_plain.specs.Plain.{is_plain};
 ghost use Rattle.dj_plain.specs.Products.{with_entries, class_entry, active_classes, classes_at, product_of, classes_size, source_size, MayBeAddedTo};
 ghost use Rattle.dj_plain.specs.Views.{class_added};
 
 use crate::adding::add_operations;
-use dj_formula::eval;
 use dj_line::{Config, Line};
 use dj_tree::{ClassOp, Source};
 use ifj_table::Table;
@@ -63,7 +61,7 @@ fn add_active(
     ensures few_texts { length table.new.texts ≤ length table.old.texts
         + 2 * classes_size (active_classes (plain_line line.now) config.now.chosen.items delta) }
 {
-    if !is_active(alloc, line, config, delta)? {
+    if !line.is_active(alloc, config, delta)? {
         return Ok(());
     }
     let source = line.source();
@@ -78,13 +76,4 @@ fn operations_of(source: &Source, delta: u32) -> &[ClassOp]
     ensures known { All (IsOperation source.now.names source.now.exprs) result.now }
 {
     source.deltas.as_slice()[delta as usize].ops.as_slice()
-}
-
-// Whether the condition of a delta holds.
-fn is_active(alloc: Global, line: &Line, config: &Config, delta: u32) -> Result<bool, NoMemory>
-    requires configuration { length config.now.chosen.items ≡ length (plain_line line.now).features }
-    requires within { delta < length (plain_line line.now).deltas }
-    ensures { IfOk result (λ active. active ≡ is_active_in (plain_line line.now) config.now.chosen.items delta) }
-{
-    eval(alloc, line.formula(Some(delta)), &config.chosen)
 }

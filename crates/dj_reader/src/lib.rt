@@ -4,8 +4,6 @@
 mod reading;
 mod stack;
 mod terminals;
-#[cfg(test)]
-mod tests;
 
 pub use reading::{ReadError, Reading};
 pub use stack::Stack;

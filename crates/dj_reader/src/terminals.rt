@@ -65,15 +65,6 @@ const RESERVED: [&str; 53] = [
     "null",
 ];
 
-// The text of a token.
-fn text_of(bytes: &[u8], token: Token) -> &[u8]
-    ensures { result.now ≡ (symbol_of bytes.now token).text }
-{
-    let end = bytes.len().min(token.to as usize);
-    let from = end.min(token.from as usize);
-    &bytes[from..end]
-}
-
 fn is_among(words: &[&str], text: &[u8]) -> bool
     ensures { result ≡ list_any (λ w. bytes_eq w.now text.now) words.now }
 {
@@ -91,19 +82,19 @@ fn is_reserved(text: &[u8]) -> bool
 pub fn is_word(bytes: &[u8], token: Token, text: &[u8]) -> bool
     ensures { result ≡ is_the_word text.now (symbol_of bytes.now token) }
 {
-    token.kind == TokenKind::Word && text_of(bytes, token) == text
+    token.kind == TokenKind::Word && token.text(bytes) == text
 }
 
 /// Whether a token of a text is this symbol.
 pub fn is_sign(bytes: &[u8], token: Token, text: &[u8]) -> bool
     ensures { result ≡ is_the_sign text.now (symbol_of bytes.now token) }
 {
-    token.kind == TokenKind::Symbol && text_of(bytes, token) == text
+    token.kind == TokenKind::Symbol && token.text(bytes) == text
 }
 
 /// Whether a token of a text is a name: a word that isn't reserved.
 pub fn is_name(bytes: &[u8], token: Token) -> bool
     ensures { result ≡ is_a_name (symbol_of bytes.now token) }
 {
-    token.kind == TokenKind::Word && !is_reserved(text_of(bytes, token))
+    token.kind == TokenKind::Word && !is_reserved(token.text(bytes))
 }

@@ -3,13 +3,14 @@ use Rattle.std.proofs.Common.{◌≡◌, ℕ, ◌+◌, ◌++◌, true, false, Li
 use Rattle.std.specs.Fmt.{decimal}
 use Rattle.dj_names.specs.Texts.{Text}
 use Rattle.dj_names.specs.Place.{line_ends_before, IsColumn}
-use Rattle.dj_lexer.specs.declared.token.Dialect.TheVariants as dialect
+use Rattle.dj_lexer.specs.TokensAt.{IsTokenAt}
 use Rattle.dj_lexer.specs.declared.token.LexFault.{LexFault}
 use Rattle.dj_faults.specs.declared.fault.LineFault.{LineFault}
 use Rattle.dj_report.specs.Join.{joined, line_end}
-use Rattle.dj_report.specs.Places.{IsPlaceText, line_and_column, IsTokenAt}
-use Rattle.dj_report.specs.Refusals.{lex_place, lex_words, line_words, takes_name, refused, refused_name, IsRefusalText, too_long, no_tokens, no_source, at_fault, at_fault_with}
-use Rattle.dj_report.specs.declared.refusal.Refusal.TheVariants.{TooLong, Lex, Syntax, Line}
+use Rattle.dj_report.specs.Places.{IsPlaceText, line_and_column}
+use Rattle.dj_report.specs.Refusals.{lex_words, line_words, refused, refused_name, IsRefusalText, too_long, no_tokens, no_source, at_fault, at_fault_with}
+use Rattle.dj_refusals.specs.Refusals.{lex_place, takes_name}
+use Rattle.dj_refusals.specs.declared.refusal.Refusal.TheVariants.{TooLong, Lex, Syntax, Line}
 
 pub place_of_parts : (bytes : List ℕ) (at line column : ℕ) (text : Text) → line ≡ line_ends_before bytes at + 1 → IsColumn bytes at column
     → text ≡ decimal line ++ (codes ":" ++ decimal column) → IsPlaceText bytes at text
@@ -35,7 +36,7 @@ fault_refused bytes fault at place words text bare stands said says =
     subst P (sym (says ∙ ap (refused place) said)) (at_fault fault at place bare stands)
 
 pub name_refused : (bytes : List ℕ) (fault : LineFault) (at : ℕ) (place words name text : Text) → takes_name fault ≡ true → IsPlaceText bytes at place
-    → IsTokenAt dialect.Line bytes at name → words ≡ line_words fault → text ≡ refused_name place words name → IsRefusalText bytes (Line fault at) text
+    → IsTokenAt bytes at name → words ≡ line_words fault → text ≡ refused_name place words name → IsRefusalText bytes (Line fault at) text
 name_refused bytes fault at place words name text takes stands says_name said says =
     let P : Text → Type 0 = IsRefusalText bytes (Line fault at) in
     subst P (sym (says ∙ ap (λ w. refused_name place w name) said)) (at_fault_with fault at place name takes stands says_name)

@@ -1,25 +1,18 @@
 -- What is said of a file that is refused.
-use Rattle.std.specs.Prelude.{◌≡◌, ℕ, ◌≤◌, Bool, true, false, List, [], ◌∷◌, length, codes}
+use Rattle.std.specs.Prelude.{◌≡◌, ℕ, true, false, List, [], ◌∷◌, codes}
 use Rattle.dj_names.specs.Texts.{Text}
-use Rattle.dj_lexer.specs.declared.token.Dialect.TheVariants as dialect
+use Rattle.dj_lexer.specs.TokensAt.{IsTokenAt}
 use Rattle.dj_lexer.specs.declared.token.LexFault.{LexFault}
 use Rattle.dj_lexer.specs.declared.token.LexFault.TheVariants.{NotUtf8, BadCharacter, OpenComment, TooDeep}
 use Rattle.dj_faults.specs.declared.fault.LineFault.{LineFault}
 use Rattle.dj_faults.specs.declared.fault.LineFault.TheVariants.{RepeatedFeature, UnknownFeature, TooManyFeatures, RepeatedDelta, UnknownDelta, DeltaNotPlaced, DeltaPlacedTwice, RepeatedPart, UnknownPart, PartsNoChain, RepeatedOperation, RepeatedMember, RepeatedParameter, ReservedClass, OriginalOutside}
 use Rattle.dj_report.specs.Join.{joined, line_end}
-use Rattle.dj_report.specs.Places.{IsPlaceText, IsTokenAt}
-use Rattle.dj_report.specs.declared.refusal.Refusal.{Refusal}
-use Rattle.dj_report.specs.declared.refusal.Refusal.TheVariants.{TooLong, Lex, Syntax, Line}
+use Rattle.dj_report.specs.Places.{IsPlaceText}
+use Rattle.dj_refusals.specs.Refusals.{lex_place, takes_name}
+use Rattle.dj_refusals.specs.declared.refusal.Refusal.{Refusal}
+use Rattle.dj_refusals.specs.declared.refusal.Refusal.TheVariants.{TooLong, Lex, Syntax, Line}
 
--- ---- words
-
--- the place of a fault of the tokens, and its words
-abbrev pub lex_place : LexFault → ℕ
-lex_place (NotUtf8 at) = at
-lex_place (BadCharacter at) = at
-lex_place (OpenComment at) = at
-lex_place (TooDeep at) = at
-
+-- the words of a fault of the tokens
 abbrev pub lex_words : LexFault → Text
 lex_words (NotUtf8 at) = codes "not UTF-8"
 lex_words (BadCharacter at) = codes "bad character"
@@ -44,12 +37,6 @@ line_words RepeatedParameter = codes "repeated parameter"
 line_words ReservedClass = codes "reserved class"
 line_words OriginalOutside = codes "original outside a modified method"
 
--- whether the words end with a name
-abbrev pub takes_name : LineFault → Bool
-takes_name TooManyFeatures = false
-takes_name OriginalOutside = false
-takes_name fault = true
-
 -- ---- texts
 
 -- "refused at", the place and the words
@@ -67,20 +54,4 @@ pub data IsRefusalText (bytes : List ℕ) : Refusal → Text → Type 0 where
   at_fault : (fault : LineFault) (at : ℕ) (place : Text) → takes_name fault ≡ false → IsPlaceText bytes at place
       → IsRefusalText bytes (Line fault at) (refused place (line_words fault))
   at_fault_with : (fault : LineFault) (at : ℕ) (place name : Text) → takes_name fault ≡ true → IsPlaceText bytes at place
-      → IsTokenAt dialect.Line bytes at name → IsRefusalText bytes (Line fault at) (refused_name place (line_words fault) name)
-
--- ---- what can be said
-
--- the place stands in the bytes
-abbrev pub IsWithin : List ℕ → Refusal → Type 0
-IsWithin bytes TooLong = Unit {0}
-IsWithin bytes (Lex fault) = lex_place fault ≤ length bytes
-IsWithin bytes (Syntax at) = at ≤ length bytes
-IsWithin bytes (Line fault at) = at ≤ length bytes
-
--- where the text takes a name, one is said at the place
-abbrev pub IsNamed : List ℕ → Refusal → Type 0
-IsNamed bytes TooLong = Unit {0}
-IsNamed bytes (Lex fault) = Unit {0}
-IsNamed bytes (Syntax at) = Unit {0}
-IsNamed bytes (Line fault at) = takes_name fault ≡ true → (name : Text) × IsTokenAt dialect.Line bytes at name
+      → IsTokenAt bytes at name → IsRefusalText bytes (Line fault at) (refused_name place (line_words fault) name)

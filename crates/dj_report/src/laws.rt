@@ -5,6 +5,5 @@ ghost use Rattle.dj_report.specs.Laws.{OneRefusalText};
 pub fn one_refusal_text()
     ensures { OneRefusalText }
 {
-    dj_lexer::one_token_list();
-    dj_lexer::token_spans();
+    dj_lexer::one_token_at();
 }

@@ -5,12 +5,9 @@ mod join;
 mod laws;
 mod place;
 mod refusal;
-#[cfg(test)]
-mod tests;
-mod token;
 mod word_texts;
 mod words;
 
 pub use laws::one_refusal_text;
-pub use refusal::{Refusal, refusal_text};
+pub use refusal::refusal_text;
 pub use word_texts::{config_text, order_text};

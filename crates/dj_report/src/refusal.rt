@@ -1,30 +1,19 @@
 //! Refused files.
 ghost use Rattle.std.specs.Prelude.{◌≡◌, ◌≤◌, length, IfOk};
-ghost use Rattle.dj_report.specs.Refusals.{IsRefusalText, IsWithin, IsNamed, refused, refused_name};
+ghost use Rattle.dj_refusals.specs.Refusals.{IsWithin, IsNamed};
+ghost use Rattle.dj_report.specs.Refusals.{IsRefusalText, refused, refused_name};
 
 use crate::join::joined;
 use crate::place::place_text;
-use crate::token::token_at;
 use crate::words::{lex_place, lex_words, line_words, takes_name};
 use dj_faults::LineFault;
-use dj_lexer::{Dialect, LexFault};
+use dj_lexer::token_at;
+use dj_refusals::Refusal;
 use std::alloc::{AllocError as NoMemory, Global};
 
-/// Why a file is refused. Places are byte offsets.
-#[derive(Clone, Copy, Debug, PartialEq, Eq)]
-pub enum Refusal {
-    /// It has more than 4,194,304 bytes.
-    TooLong,
-    /// It has no tokens.
-    Lex(LexFault),
-    /// Its tokens spell nothing; the place is that of the first that can't stand where it stands.
-    Syntax(u32),
-    /// The product line has a fault, at a place.
-    Line(LineFault, u32),
-}
-
 /// The text of a refusal of a file, with the places in its bytes as line and column. It needs that the place stands
-/// in the bytes, and that a token begins there where the text tells its name. `IsRefusalText` says which text it is.
+/// in the bytes, and that a token begins there where the text tells its name, in one of the two dialects. Nothing is
+/// asked of how many brackets are open. `IsRefusalText` says which text it is.
 pub fn refusal_text(alloc: Global, bytes: &[u8], refusal: &Refusal) -> Result<Vec<u8>, NoMemory>
     requires small { length bytes.now ≤ 4194305 }
     requires within { IsWithin bytes.now refusal.now }
@@ -56,7 +45,7 @@ fn line_text(alloc: Global, bytes: &[u8], fault: LineFault, at: u32) -> Result<V
     if !takes_name(fault) {
         return refused_text(alloc, &place, line_words(fault));
     }
-    let name = token_at(alloc, bytes, Dialect::Line, at)?;
+    let name = token_at(bytes, at);
     refused_name_text(alloc, &place, line_words(fault), name)
 }
 

@@ -1,6 +1,7 @@
 //! The words of each fault.
 ghost use Rattle.std.specs.Prelude.{◌≡◌};
-ghost use Rattle.dj_report.specs.Refusals.{lex_place as lex_place_of, lex_words as lex_words_of, line_words as line_words_of, takes_name as takes_name_of};
+ghost use Rattle.dj_refusals.specs.Refusals.{lex_place as lex_place_of, takes_name as takes_name_of};
+ghost use Rattle.dj_report.specs.Refusals.{lex_words as lex_words_of, line_words as line_words_of};
 
 use dj_faults::LineFault;
 use dj_lexer::LexFault;

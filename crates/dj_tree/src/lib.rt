@@ -7,8 +7,6 @@ mod formula;
 mod laws;
 mod listed;
 mod source;
-#[cfg(test)]
-mod tests;
 
 pub use declarations::{
     ClassChange, ClassDecl, ClassOp, DeltaDecl, FieldDecl, Item, MemberOp, Method, PartDecl, Spot,

@@ -5,7 +5,7 @@ use Rattle.arena_walk.specs.Forest.{first_number}
 use Rattle.arena_walk.proofs.TreeLemmas.{EachNode-from}
 use Rattle.arena_walk.proofs.ForestLemmas.{nodes_to}
 use Rattle.arena_walk.proofs.SlotLemmas.{same_first, size_within}
-use Rattle.arena_walk.proofs.WalkLemmas.{along_start, along_enough, along_kids, along_next, along_end, along_at, along_with, next_node, numbers_all, Appends-same, told_more, told_none, OnErr-always}
+use Rattle.arena_walk.proofs.WalkLemmas.{along_start, along_enough, along_kids, along_next, along_end, along_at, along_with, next_node, numbers_all, tells-same, told_more, told_none, OnErr-always}
 use Rattle.arena_walk.proofs.visit.walk.Goals as goal
 
 pub loop-number-init : goal.loop-number-init
@@ -114,5 +114,5 @@ pub returns-clause-visited_all : goal.returns-clause-visited_all
 returns-clause-visited_all g c = λ t is.
     let root = c.args.root.0 in
     let within = size_within g.N.Shape.arity_of c.args.arena.now root t is in
-    Appends-same (g.V.Visit.visited c.args.visitor.now) (g.V.Visit.visited c.loop-number.visitor) _ _
+    tells-same (g.V.Visit.visited c.args.visitor.now) (g.V.Visit.visited c.loop-number.visitor) _ _
     (numbers_all (first_number root t) (c.loop-number.number - first_number root t) t (omega arith)) (c.loop-number.invariant.told t is)

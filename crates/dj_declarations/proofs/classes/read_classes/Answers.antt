@@ -22,7 +22,7 @@ pieces-smaller c =
 pub pieces-preserved : goal.pieces-preserved
 pieces-preserved c =
     let shrinking = class_shrinks _ _ (c.expressions_are_read.ensures.trees c.args.dialect) in
-    let pushed : c.push.new.self.items ≡ c.pieces.classes.items ++ c.in_ok-class.class ∷ [] = c.push.ensures.items ∙ rw c.if-is_err.ensures.negation refl in (
+    let pushed : c.push.new.self.items ≡ c.pieces.classes.items ++ c.in_ok-class.class ∷ [] = c.push.ensures.items ∙ rw c.in_ok-push.was refl in (
       rw pushed (end_piece_goes (class_view c.args.bytes.now) (class_reading (expr_trees c.args.dialect)) shrinking c.args.bytes.now c.pieces.classes.items c.in_ok-class.class
           c.pieces.rest.now c.in_ok-class.after.now _ c.pieces-test.ensures c.in_ok-class.ensures.answers c.pieces.invariant.0),
       omega (arith, c.in_ok-class.ensures.fewer, c.pieces.invariant.1),

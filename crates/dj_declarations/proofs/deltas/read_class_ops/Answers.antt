@@ -25,7 +25,7 @@ pieces-smaller c =
 pub pieces-preserved : goal.pieces-preserved
 pieces-preserved c =
     let shrinking = operations_shrink _ (c.expressions_are_read.ensures.trees Line) in
-    let pushed : c.push.new.self.items ≡ c.pieces.ops.items ++ c.in_ok-op.op ∷ [] = c.push.ensures.items ∙ rw c.if-is_err.ensures.negation refl in (
+    let pushed : c.push.new.self.items ≡ c.pieces.ops.items ++ c.in_ok-op.op ∷ [] = c.push.ensures.items ∙ rw c.in_ok-push.was refl in (
       rw pushed (piece_goes (class_op_view c.args.bytes.now) (codes "}") (operation_reading (expr_trees Line)) shrinking refl c.pieces.ops.items c.in_ok-op.op
           (symbols_of c.args.bytes.now c.pieces.rest.now) (symbols_of c.args.bytes.now c.in_ok-op.after.now) _ (sym c.pieces-test.ensures) c.in_ok-op.ensures.answers c.pieces.invariant.0),
       omega (arith, c.in_ok-op.ensures.fewer, c.pieces.invariant.1),

@@ -23,7 +23,7 @@ pieces-smaller c =
 pub pieces-preserved : goal.pieces-preserved
 pieces-preserved c =
     let shrinking = deltas_shrink _ (c.expressions_are_read.ensures.trees Line) in
-    let pushed : c.push.new.self.items ≡ c.pieces.deltas.items ++ c.in_ok-delta.delta ∷ [] = c.push.ensures.items ∙ rw c.if-is_err.ensures.negation refl in (
+    let pushed : c.push.new.self.items ≡ c.pieces.deltas.items ++ c.in_ok-delta.delta ∷ [] = c.push.ensures.items ∙ rw c.in_ok-push.was refl in (
       rw pushed (end_piece_goes (delta_view c.args.bytes.now) (delta_reading (expr_trees Line)) shrinking c.args.bytes.now c.pieces.deltas.items c.in_ok-delta.delta
           c.pieces.rest.now c.in_ok-delta.after.now _ c.pieces-test.ensures c.in_ok-delta.ensures.answers c.pieces.invariant.0),
       omega (arith, c.in_ok-delta.ensures.fewer, c.pieces.invariant.1),

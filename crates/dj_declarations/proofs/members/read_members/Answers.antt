@@ -24,7 +24,7 @@ pieces-smaller c =
 pub pieces-preserved : goal.pieces-preserved
 pieces-preserved c =
     let shrinking = member_shrinks _ _ (c.expressions_are_read.ensures.trees c.args.dialect) in
-    let pushed : c.push.new.self.items ≡ c.pieces.members.items ++ c.in_ok-member.member ∷ [] = c.push.ensures.items ∙ rw c.if-is_err.ensures.negation refl in (
+    let pushed : c.push.new.self.items ≡ c.pieces.members.items ++ c.in_ok-member.member ∷ [] = c.push.ensures.items ∙ rw c.in_ok-push.was refl in (
       rw pushed (piece_goes (member_view c.args.bytes.now) (codes "}") (member_reading (expr_trees c.args.dialect)) shrinking refl c.pieces.members.items c.in_ok-member.member
           (symbols_of c.args.bytes.now c.pieces.rest.now) (symbols_of c.args.bytes.now c.in_ok-member.after.now) _ (sym c.pieces-test.ensures) c.in_ok-member.ensures.answers c.pieces.invariant.0),
       omega (arith, c.in_ok-member.ensures.fewer, c.pieces.invariant.1),

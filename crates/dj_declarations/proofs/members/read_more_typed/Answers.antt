@@ -13,7 +13,7 @@ use Rattle.dj_declarations.proofs.members.read_more_typed.Goals as goal
 
 pub pieces-init : goal.pieces-init
 pieces-init c =
-    let pushed : c.push.new.self.items ≡ c.args.first ∷ [] = c.push.ensures.items ∙ rw (c.if-is_err.ensures.negation, c.new-fields.ensures.items) refl in
+    let pushed : c.push.new.self.items ≡ c.args.first ∷ [] = c.push.ensures.items ∙ rw (c.in_ok-push.was, c.new-fields.ensures.items) refl in
     (rw pushed refl, omega arith)
 
 pub pieces-smaller : goal.pieces-smaller
@@ -21,7 +21,7 @@ pieces-smaller c = token_taken comma_shrinks c.args.bytes.now c.pieces.rest.now 
 
 pub pieces-preserved : goal.pieces-preserved
 pieces-preserved c =
-    let pushed : c.push-in-pieces.new.self.items ≡ c.pieces.fields.items ++ c.in_ok-field.field ∷ [] = c.push-in-pieces.ensures.items ∙ rw c.if-is_err-2.ensures.negation refl in (
+    let pushed : c.push-in-pieces.new.self.items ≡ c.pieces.fields.items ++ c.in_ok-field.field ∷ [] = c.push-in-pieces.ensures.items ∙ rw c.in_ok-push-2.was refl in (
       rw pushed (piece_goes (field_view c.args.bytes.now) (codes ")") (comma_and typed_reading) comma_shrinks refl c.pieces.fields.items c.in_ok-field.field
           (symbols_of c.args.bytes.now c.pieces.rest.now) (symbols_of c.args.bytes.now c.in_ok-field.after.now) _ (sym c.pieces-test.ensures) c.in_ok-field.ensures.answers c.pieces.invariant.0),
       omega (arith, c.in_ok-field.ensures.fewer, c.pieces.invariant.1),
@@ -29,7 +29,7 @@ pieces-preserved c =
 
 pub returns-in_err-field-clause-answers : goal.returns-in_err-field-clause-answers
 returns-in_err-field-clause-answers c =
-    let p = err_from_is_err_and c.from_residual.result c.from_residual.ensures.1 in
+    let p = err_from_is_err_and c.from_residual-in_err-field.result c.from_residual-in_err-field.ensures.1 in
     rw (p.1, p.2) (stops (is_the_sign (codes ")")) (comma_and typed_reading) comma_shrinks refl _ (symbols_of c.args.bytes.now c.pieces.rest.now) _ _ (sym c.pieces-test.ensures) c.in_err-field.ensures.answers c.pieces.invariant.0)
 
 pub returns-clause-answers : goal.returns-clause-answers

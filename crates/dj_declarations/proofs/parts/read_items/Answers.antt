@@ -18,7 +18,7 @@ pieces-smaller c = token_taken (item_shrinks formula_trees c.formulas_are_read.e
 
 pub pieces-preserved : goal.pieces-preserved
 pieces-preserved c =
-    let pushed : c.push.new.self.items ≡ c.pieces.items.items ++ c.in_ok-item.item ∷ [] = c.push.ensures.items ∙ rw c.if-is_err.ensures.negation refl in (
+    let pushed : c.push.new.self.items ≡ c.pieces.items.items ++ c.in_ok-item.item ∷ [] = c.push.ensures.items ∙ rw c.in_ok-push.was refl in (
       rw pushed (piece_goes (item_view c.args.bytes.now) (codes "}") (item_reading formula_trees) (item_shrinks formula_trees c.formulas_are_read.ensures.trees) refl c.pieces.items.items c.in_ok-item.item
           (symbols_of c.args.bytes.now c.pieces.rest.now) (symbols_of c.args.bytes.now c.in_ok-item.after.now) _ (sym c.pieces-test.ensures) c.in_ok-item.ensures.answers c.pieces.invariant.0),
       omega (arith, c.in_ok-item.ensures.fewer, c.pieces.invariant.1),

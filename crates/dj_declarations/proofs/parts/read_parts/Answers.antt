@@ -18,7 +18,7 @@ pieces-smaller c = token_taken (part_shrinks formula_trees c.formulas_are_read.e
 
 pub pieces-preserved : goal.pieces-preserved
 pieces-preserved c =
-    let pushed : c.push.new.self.items ≡ c.pieces.parts.items ++ c.in_ok-part.part ∷ [] = c.push.ensures.items ∙ rw c.if-is_err.ensures.negation refl in (
+    let pushed : c.push.new.self.items ≡ c.pieces.parts.items ++ c.in_ok-part.part ∷ [] = c.push.ensures.items ∙ rw c.in_ok-push.was refl in (
       rw pushed (piece_goes (part_view c.args.bytes.now) (codes "}") (part_reading formula_trees) (part_shrinks formula_trees c.formulas_are_read.ensures.trees) refl c.pieces.parts.items c.in_ok-part.part
           (symbols_of c.args.bytes.now c.pieces.rest.now) (symbols_of c.args.bytes.now c.in_ok-part.after.now) _ (sym c.pieces-test.ensures) c.in_ok-part.ensures.answers c.pieces.invariant.0),
       omega (arith, c.in_ok-part.ensures.fewer, c.pieces.invariant.1),

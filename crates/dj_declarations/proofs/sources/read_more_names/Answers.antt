@@ -12,7 +12,7 @@ use Rattle.dj_declarations.proofs.sources.read_more_names.Goals as goal
 
 pub pieces-init : goal.pieces-init
 pieces-init c =
-    let pushed : c.push.new.self.items ≡ c.args.first ∷ [] = c.push.ensures.items ∙ rw (c.if-is_err.ensures.negation, c.new-names.ensures.items) refl in
+    let pushed : c.push.new.self.items ≡ c.args.first ∷ [] = c.push.ensures.items ∙ rw (c.in_ok-push.was, c.new-names.ensures.items) refl in
     (rw pushed refl, omega arith)
 
 pub pieces-smaller : goal.pieces-smaller
@@ -20,7 +20,7 @@ pieces-smaller c = token_taken name_shrinks c.args.bytes.now c.pieces.rest.now c
 
 pub pieces-preserved : goal.pieces-preserved
 pieces-preserved c =
-    let pushed : c.push-in-pieces.new.self.items ≡ c.pieces.names.items ++ c.in_ok-name.name ∷ [] = c.push-in-pieces.ensures.items ∙ rw c.if-is_err-2.ensures.negation refl in (
+    let pushed : c.push-in-pieces.new.self.items ≡ c.pieces.names.items ++ c.in_ok-name.name ∷ [] = c.push-in-pieces.ensures.items ∙ rw c.in_ok-push-2.was refl in (
       rw pushed (piece_goes (spot_at c.args.bytes.now) (codes ";") (comma_and a_name) name_shrinks refl c.pieces.names.items c.in_ok-name.name
           (symbols_of c.args.bytes.now c.pieces.rest.now) (symbols_of c.args.bytes.now c.in_ok-name.after.now) _ (sym c.pieces-test.ensures) c.in_ok-name.ensures.answers c.pieces.invariant.0),
       omega (arith, c.in_ok-name.ensures.fewer, c.pieces.invariant.1),
@@ -28,7 +28,7 @@ pieces-preserved c =
 
 pub returns-in_err-name-clause-answers : goal.returns-in_err-name-clause-answers
 returns-in_err-name-clause-answers c =
-    let p = err_from_is_err_and c.from_residual.result c.from_residual.ensures.1 in
+    let p = err_from_is_err_and c.from_residual-in_err-name.result c.from_residual-in_err-name.ensures.1 in
     rw (p.1, p.2) (stops (is_the_sign (codes ";")) (comma_and a_name) name_shrinks refl _ (symbols_of c.args.bytes.now c.pieces.rest.now) _ _ (sym c.pieces-test.ensures) c.in_err-name.ensures.answers c.pieces.invariant.0)
 
 pub returns-clause-answers : goal.returns-clause-answers

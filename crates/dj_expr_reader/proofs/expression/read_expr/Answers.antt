@@ -17,7 +17,7 @@ step-requires c =
 
 pub tokens-preserved : goal.tokens-preserved
 tokens-preserved c =
-    let turn = c.in-Ok-Goes.ensures ∙ ap (λ t. plain_move c.args.bytes.now t c.step.new.machine) c.in-Ok-Goes.field-0-is in
+    let turn = c.in_ok-step.ensures ∙ ap (λ t. plain_move c.args.bytes.now t c.step.new.machine) c.in-Goes.is in
     let before = c.tokens.invariant in
     let less = one_less c.tokens.rest.now c.in-len1-up.len_at_least in (
       before.0 ∙ goes_on c.args.bytes.now c.args.dialect _ _ _ _ _ _ c.tokens.rest.now _ c.in-len1-up.len_at_least turn,

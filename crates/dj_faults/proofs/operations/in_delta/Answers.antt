@@ -1,9 +1,5 @@
-use Rattle.std.proofs.Common.{refl}
-use Rattle.std.proofs.lemmas.Option.{slice_get_read}
-use Rattle.dj_faults.proofs.LeastLemmas.{among_next}
+use Rattle.dj_faults.proofs.InsidePlaces.{with_classes}
 use Rattle.dj_faults.proofs.operations.in_delta.Goals as goal
 
-pub loop-operation-preserved : goal.loop-operation-preserved
-loop-operation-preserved c =
-    let here = slice_get_read c.args.operations.now _ c.loop-operation.operation-index c.operation-item.result refl c.loop-operation-test.true c.operation-item.is in
-    rw c.earlier-least.ensures (among_next _ c.args.operations.now c.loop-operation.operation-index _ _ _ here c.loop-operation.invariant c.in_ok-here.ensures)
+pub returns : goal.returns
+returns c = with_classes _ c.args.operations.now c.in_ok-class.class _ c.earlier-places.result c.earlier-places.ensures c.in_ok-class.ensures c.in_ok-places.ensures

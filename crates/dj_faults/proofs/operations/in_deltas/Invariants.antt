@@ -1,8 +1,11 @@
 use Rattle.std.proofs.Common.{take}
 use Rattle.dj_tree.specs.Plain.{plain_operation}
-use Rattle.dj_faults.specs.LeastPlace.{IsLeastPlace, Among}
-use Rattle.dj_faults.specs.Inside.{InOperation}
+use Rattle.dj_faults.specs.LeastPlace.{Among}
+use Rattle.dj_faults.specs.Inside.{InOperations}
+use Rattle.dj_faults.specs.Places.{AreLeast}
 use Rattle.dj_faults.proofs.operations.in_deltas.Given as goal
 
+-- the least places in the deltas so far
 abbrev pub invariant-loop-delta : goal.invariant-loop-delta
-invariant-loop-delta l = IsLeastPlace (Among (λ d. Among (λ o. InOperation l.fn.fault (plain_operation l.source.names l.source.exprs o)) d.ops) (take l.delta-index l.source.deltas)) l.least
+invariant-loop-delta l =
+    AreLeast (λ fault. Among (λ d. InOperations (plain_operation l.source.names l.source.exprs) fault d.ops) (take l.delta-index l.source.deltas)) l.least

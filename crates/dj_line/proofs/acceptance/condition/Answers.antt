@@ -3,7 +3,7 @@ use Rattle.arena_walk.specs.declared.arena.NodeId.{NodeId}
 use Rattle.dj_tree.specs.Trees as plain
 use Rattle.dj_tree.specs.Plain.{plain_source}
 use Rattle.dj_formula.specs.declared.formula.Formula.{Formula}
-use Rattle.dj_gates.specs.Gates.{StandsFor}
+use Rattle.dj_conditions.specs.Conditions.{StandsFor}
 use Rattle.dj_line.specs.Numbering.{when_formula}
 use Rattle.dj_line.proofs.acceptance.condition.Goals as goal
 

@@ -4,7 +4,7 @@ use Rattle.dj_tree.specs.Trees as plain
 use Rattle.dj_tree.specs.Plain.{plain_source}
 use Rattle.dj_calculus.proofs.Members.{either}
 use Rattle.dj_formula.specs.declared.formula.Formula.{Formula}
-use Rattle.dj_gates.specs.Gates.{StandsFor}
+use Rattle.dj_conditions.specs.Conditions.{StandsFor}
 use Rattle.dj_line.specs.declared.tables.Placing.{Placing}
 use Rattle.dj_line.specs.Placing.{condition_of}
 use Rattle.dj_line.proofs.LineOf.{got_pushed}

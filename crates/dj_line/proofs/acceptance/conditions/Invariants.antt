@@ -1,7 +1,7 @@
 use Rattle.std.proofs.Common.{◌≡◌, ℕ, Some, length, slice_get}
 use Rattle.dj_tree.specs.Plain.{plain_source}
 use Rattle.dj_formula.specs.declared.formula.Formula.{Formula}
-use Rattle.dj_gates.specs.Gates.{StandsFor}
+use Rattle.dj_conditions.specs.Conditions.{StandsFor}
 use Rattle.dj_line.specs.Placing.{condition_of}
 use Rattle.dj_line.proofs.acceptance.conditions.Given as goal
 

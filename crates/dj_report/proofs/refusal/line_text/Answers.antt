@@ -17,10 +17,10 @@ returns-then-not-takes_name c =
 pub returns : goal.returns
 returns c =
     IfOk-weaker c.refused_name_text.result _ _
-    (λ text says. name_refused c.args.bytes.now c.args.fault c.args.at c.deref-2.result.now c.line_words-2.result.now c.in_ok-name.name.now text.items
+    (λ text says. name_refused c.args.bytes.now c.args.fault c.args.at c.deref-2.result.now c.line_words-2.result.now c.token_at-name.result.now text.items
     (sym c.takes_name.ensures ∙ c.if-not-takes_name.false)
     (subst (IsPlaceText c.args.bytes.now c.args.at) (sym c.deref-2.ensures) c.in_ok-place.ensures)
-    c.in_ok-name.ensures
+    c.token_at-name.ensures
     c.line_words-2.ensures
     says)
     c.refused_name_text.ensures

@@ -1,0 +1,18 @@
+use Rattle.std.proofs.Common.{Some, map, refl, sym, subst}
+use Rattle.std.specs.String.{string_bytes}
+use Rattle.dj_run.specs.Commands.{command_of}
+use Rattle.dj_run.specs.Answers.{Answers, usage}
+use Rattle.dj_run.specs.Outcomes.{Reads}
+use Rattle.dj_run.proofs.Answering.{unbuilt_answer, generated}
+use Rattle.dj_run.proofs.answer.answer.Goals as goal
+
+pub returns-in-None-clause-defined : goal.returns-in-None-clause-defined
+returns-in-None-clause-defined g c = subst (λ command. Answers (g.F.Files.left c.args.files.now) command usage) (sym c.in-None.ensures) refl
+
+pub returns-in-Some-Unbuilt-clause-defined : goal.returns-in-Some-Unbuilt-clause-defined
+returns-in-Some-Unbuilt-clause-defined g c =
+    let command = command_of (map string_bytes c.args.words.now) in
+    unbuilt_answer (g.F.Files.left c.args.files.now) command (subst (λ f. Reads (Some f) command) c.in-Some-Unbuilt.field-0-is c.in-Some-Unbuilt.ensures)
+
+pub generate-requires : goal.generate-requires
+generate-requires g c = let read = c.in_ok-reading-in-Some-Generate.ensures.read in (read.0, read.2)
