@@ -1,3 +1,4 @@
 pub mod Entries
 pub mod Writing
 pub mod Appending
+pub mod Formulas

@@ -119,6 +119,11 @@ impl<K: Eq + Hash + Drop> Gates<K> {
         self.gate(key, Parts::Equal(left, right))
     }
 
+    // The allocator of all that is kept.
+    pub(crate) fn allocator(&self) -> Global {
+        *self.written.allocator()
+    }
+
     // Gives a key a gate.
     fn gate(&mut self, key: K, parts: Parts) -> Result<Lit, NoMemory>
         requires { All (IsNumbered self.old) (literals_in parts) }
@@ -131,7 +136,7 @@ impl<K: Eq + Hash + Drop> Gates<K> {
         let place = self.place_of(key)?;
         let lit = literal_at(place);
         if !self.written[place] {
-            push_gate(*self.written.allocator(), &mut self.clauses, lit, parts)?;
+            push_gate(self.allocator(), &mut self.clauses, lit, parts)?;
             self.written[place] = true;
         }
         Ok(lit)

@@ -1,6 +1,7 @@
 //! Gates over clauses, under named keys.
 #![tactic(auto)]
 
+mod formula;
 mod gates;
 mod parts;
 
