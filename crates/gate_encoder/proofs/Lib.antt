@@ -5,3 +5,8 @@ pub mod Nodes
 pub mod Numbers
 pub mod Trees
 pub mod Walking
+pub mod Meaning
+pub mod Saying
+pub mod Deciding
+pub mod Renaming
+pub mod FormulaValues

@@ -3,6 +3,10 @@
 
 mod formula;
 mod gates;
+mod laws;
 mod parts;
 
 pub use gates::Gates;
+pub use laws::{
+    choices_extend, clauses_say, formulas_have_values, free_keys_decide, gates_have_values, renaming_keeps, values_say,
+};
