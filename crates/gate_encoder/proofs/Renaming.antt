@@ -91,15 +91,15 @@ module _ {J K : Type 0} (eq : J → J → Bool) (other : K → K → Bool) (name
           → (after_step other (renamed_written w) (new_number (name k)) ≡ renamed_written (after_step eq w (new_number k))) × AreFine (after_step eq w (new_number k)).keys
       by true there is = (
         ap (λ (es : List (K × Bool)). let x : Written K = record { keys = es; clauses = w.clauses } in x)
-        (ap (λ b. if b then renamed_keys name w.keys else renamed_keys name w.keys ++ (name k, false) ∷ []) (is ∙ there)
-        ∙ ap (λ b. renamed_keys name (if b then w.keys else w.keys ++ (k, false) ∷ [])) (sym there)),
+            (ap (λ b. if b then renamed_keys name w.keys else renamed_keys name w.keys ++ (name k, false) ∷ []) (is ∙ there)
+            ∙ ap (λ b. renamed_keys name (if b then w.keys else w.keys ++ (k, false) ∷ [])) (sym there)),
         subst (λ (es : List (J × Bool)). Each (λ (x : J × Bool). P x.0) es) (ap (λ b. if b then w.keys else w.keys ++ (k, false) ∷ []) (sym there)) fine,
       )
       by false none is = (
         ap (λ (es : List (K × Bool)). let x : Written K = record { keys = es; clauses = w.clauses } in x)
-        (ap (λ b. if b then renamed_keys name w.keys else renamed_keys name w.keys ++ (name k, false) ∷ []) (is ∙ none)
-        ∙ sym (map-append (λ (e : J × Bool). let pair : K × Bool = (name e.0, e.1) in pair) w.keys ((k, false) ∷ []))
-        ∙ ap (λ b. renamed_keys name (if b then w.keys else w.keys ++ (k, false) ∷ [])) (sym none)),
+            (ap (λ b. if b then renamed_keys name w.keys else renamed_keys name w.keys ++ (name k, false) ∷ []) (is ∙ none)
+            ∙ sym (map-append (λ (e : J × Bool). let pair : K × Bool = (name e.0, e.1) in pair) w.keys ((k, false) ∷ []))
+            ∙ ap (λ b. renamed_keys name (if b then w.keys else w.keys ++ (k, false) ∷ [])) (sym none)),
         subst (λ (es : List (J × Bool)). Each (λ (x : J × Bool). P x.0) es) (ap (λ b. if b then w.keys else w.keys ++ (k, false) ∷ []) (sym none)) (each-append (λ (x : J × Bool). P x.0) w.keys ((k, false) ∷ []) fine (p, tt)),
       )
   step_renamed w (new_clause lits) p fine = (refl, fine)
@@ -149,12 +149,12 @@ module _ {J K : Type 0} (eq : J → J → Bool) (other : K → K → Bool) (name
           → (gate_steps other (renamed_written w) (name k) cs ≡ map renamed_step (gate_steps eq w k cs)) × Each IsFine (gate_steps eq w k cs)
       by true there is = (
         ap (λ b. if b then [] else new_number (name k) ∷ map new_clause cs ++ whole_gate (name k) ∷ []) (is ∙ there)
-        ∙ ap (λ b. map renamed_step (if b then [] else new_number k ∷ map new_clause cs ++ whole_gate k ∷ [])) (sym there),
+            ∙ ap (λ b. map renamed_step (if b then [] else new_number k ∷ map new_clause cs ++ whole_gate k ∷ [])) (sym there),
         subst (λ (ss : List (Step J)). Each IsFine ss) (ap (λ b. if b then [] else new_number k ∷ map new_clause cs ++ whole_gate k ∷ []) (sym there)) tt,
       )
       by false none is = (
         ap (λ b. if b then [] else new_number (name k) ∷ map new_clause cs ++ whole_gate (name k) ∷ []) (is ∙ none)
-        ∙ sym whole ∙ ap (λ b. map renamed_step (if b then [] else new_number k ∷ map new_clause cs ++ whole_gate k ∷ [])) (sym none),
+            ∙ sym whole ∙ ap (λ b. map renamed_step (if b then [] else new_number k ∷ map new_clause cs ++ whole_gate k ∷ [])) (sym none),
         subst (λ (ss : List (Step J)). Each IsFine ss) (ap (λ b. if b then [] else new_number k ∷ map new_clause cs ++ whole_gate k ∷ []) (sym none)) (p, clauses_fine cs (whole_gate k ∷ []) (p, tt)),
       )
 
@@ -172,21 +172,21 @@ module _ {J K : Type 0} (eq : J → J → Bool) (other : K → K → Bool) (name
       let keys = each_front P (map (λ l. l.key) ls) (k ∷ []) p in
       let gate = gate_renamed w fine k keys.1.0 (all_clauses (literal eq w k) (map (lit_in eq w) ls)) in (
         ap (λ lits. gate_steps other (renamed_written w) (name k) (all_clauses (literal other (renamed_written w) (name k)) lits)) (lits_renamed w fine ls keys.0)
-        ∙ ap (λ l. gate_steps other (renamed_written w) (name k) (all_clauses l (map (lit_in eq w) ls))) (own_renamed w fine k keys.1.0) ∙ gate.0,
+            ∙ ap (λ l. gate_steps other (renamed_written w) (name k) (all_clauses l (map (lit_in eq w) ls))) (own_renamed w fine k keys.1.0) ∙ gate.0,
         gate.1,
       )
   entry_renamed w fine (any_of k ls) p =
       let keys = each_front P (map (λ l. l.key) ls) (k ∷ []) p in
       let gate = gate_renamed w fine k keys.1.0 (any_clauses (literal eq w k) (map (lit_in eq w) ls)) in (
         ap (λ lits. gate_steps other (renamed_written w) (name k) (any_clauses (literal other (renamed_written w) (name k)) lits)) (lits_renamed w fine ls keys.0)
-        ∙ ap (λ l. gate_steps other (renamed_written w) (name k) (any_clauses l (map (lit_in eq w) ls))) (own_renamed w fine k keys.1.0) ∙ gate.0,
+            ∙ ap (λ l. gate_steps other (renamed_written w) (name k) (any_clauses l (map (lit_in eq w) ls))) (own_renamed w fine k keys.1.0) ∙ gate.0,
         gate.1,
       )
   entry_renamed w fine (equal_of k a b) p =
       let gate = gate_renamed w fine k p.1.1.0 (equal_clauses (literal eq w k) (lit_in eq w a) (lit_in eq w b)) in (
         ap (λ l. gate_steps other (renamed_written w) (name k) (equal_clauses l (lit_in other (renamed_written w) (renamed_literal name a)) (lit_in other (renamed_written w) (renamed_literal name b)))) (own_renamed w fine k p.1.1.0)
-        ∙ ap (λ l. gate_steps other (renamed_written w) (name k) (equal_clauses (literal eq w k) l (lit_in other (renamed_written w) (renamed_literal name b)))) (lit_renamed w fine a p.0)
-        ∙ ap (λ l. gate_steps other (renamed_written w) (name k) (equal_clauses (literal eq w k) (lit_in eq w a) l)) (lit_renamed w fine b p.1.0) ∙ gate.0,
+            ∙ ap (λ l. gate_steps other (renamed_written w) (name k) (equal_clauses (literal eq w k) l (lit_in other (renamed_written w) (renamed_literal name b)))) (lit_renamed w fine a p.0)
+            ∙ ap (λ l. gate_steps other (renamed_written w) (name k) (equal_clauses (literal eq w k) (lit_in eq w a) l)) (lit_renamed w fine b p.1.0) ∙ gate.0,
         gate.1,
       )
 

@@ -51,30 +51,30 @@ pub returns-in_err-lit-clause-err : goal.returns-in_err-lit-clause-err
 returns-in_err-lit-clause-err g c =
     cut_on_err c.from_residual.result g.K.PartialEq.eq c.args.formula.now c.args.self.now c.node.new.self c.args.truth c.args.features.now _
     (λ names t is are.
-        let f = c.args.formula.now in
-        let now = c.loop-number in
-        let start = c.len.result - c.arity.result in
-        let gate = c.get-gate.result.now in
-        let slice = to_the_end c.deref.result.now now.lits.items start c.deref.ensures.value in
-        let some = stand_enough g.K.PartialEq.eq f c.args.truth c.args.features.now _ t is c.args.self.now now.self now.number now.lits.items (now.invariant.stand t is) gate c.get-gate.ensures.node c.loop-number-test.true in
-        stand_cut g.K.PartialEq.eq f c.args.truth c.args.features.now _ t is c.args.self.now now.self now.number now.lits.items (now.invariant.stand t is) gate c.get-gate.ensures.node c.loop-number-test.true
-        start (omega (arith, some, c.arity.ensures, c.len.ensures, now.lits.ok.0)) names are c.node.new.self
-        (λ name all. subst (λ (ls : List Lit). IsCut g.K.PartialEq.eq now.self (flat_map (steps g.K.PartialEq.eq now.self) (node_entries opposite name gate ls)) c.node.new.self) slice (c.in_err-lit.ensures.err name all)))
+    let f = c.args.formula.now in
+    let now = c.loop-number in
+    let start = c.len.result - c.arity.result in
+    let gate = c.get-gate.result.now in
+    let slice = to_the_end c.deref.result.now now.lits.items start c.deref.ensures.value in
+    let some = stand_enough g.K.PartialEq.eq f c.args.truth c.args.features.now _ t is c.args.self.now now.self now.number now.lits.items (now.invariant.stand t is) gate c.get-gate.ensures.node c.loop-number-test.true in
+    stand_cut g.K.PartialEq.eq f c.args.truth c.args.features.now _ t is c.args.self.now now.self now.number now.lits.items (now.invariant.stand t is) gate c.get-gate.ensures.node c.loop-number-test.true
+    start (omega (arith, some, c.arity.ensures, c.len.ensures, now.lits.ok.0)) names are c.node.new.self
+    (λ name all. subst (λ (ls : List Lit). IsCut g.K.PartialEq.eq now.self (flat_map (steps g.K.PartialEq.eq now.self) (node_entries opposite name gate ls)) c.node.new.self) slice (c.in_err-lit.ensures.err name all)))
 
 pub returns-in_err-push-clause-err : goal.returns-in_err-push-clause-err
 returns-in_err-push-clause-err g c =
     cut_on_err c.from_residual-in_err-push.result g.K.PartialEq.eq c.args.formula.now c.args.self.now c.node.new.self c.args.truth c.args.features.now _
     (λ names t is are.
-        let f = c.args.formula.now in
-        let now = c.loop-number in
-        let start = c.len.result - c.arity.result in
-        let gate = c.get-gate.result.now in
-        let slice = to_the_end c.deref.result.now now.lits.items start c.deref.ensures.value in
-        let some = stand_enough g.K.PartialEq.eq f c.args.truth c.args.features.now _ t is c.args.self.now now.self now.number now.lits.items (now.invariant.stand t is) gate c.get-gate.ensures.node c.loop-number-test.true in
-        stand_cut g.K.PartialEq.eq f c.args.truth c.args.features.now _ t is c.args.self.now now.self now.number now.lits.items (now.invariant.stand t is) gate c.get-gate.ensures.node c.loop-number-test.true
-        start (omega (arith, some, c.arity.ensures, c.len.ensures, now.lits.ok.0)) names are c.node.new.self
-        (λ name all. subst (λ (ls : List Lit). IsCut g.K.PartialEq.eq now.self (flat_map (steps g.K.PartialEq.eq now.self) (node_entries opposite name gate ls)) c.node.new.self) slice
-            (cut_node g.K.PartialEq.eq now.self c.node.new.self name gate _ (c.in_ok-lit.ensures.written name all))))
+    let f = c.args.formula.now in
+    let now = c.loop-number in
+    let start = c.len.result - c.arity.result in
+    let gate = c.get-gate.result.now in
+    let slice = to_the_end c.deref.result.now now.lits.items start c.deref.ensures.value in
+    let some = stand_enough g.K.PartialEq.eq f c.args.truth c.args.features.now _ t is c.args.self.now now.self now.number now.lits.items (now.invariant.stand t is) gate c.get-gate.ensures.node c.loop-number-test.true in
+    stand_cut g.K.PartialEq.eq f c.args.truth c.args.features.now _ t is c.args.self.now now.self now.number now.lits.items (now.invariant.stand t is) gate c.get-gate.ensures.node c.loop-number-test.true
+    start (omega (arith, some, c.arity.ensures, c.len.ensures, now.lits.ok.0)) names are c.node.new.self
+    (λ name all. subst (λ (ls : List Lit). IsCut g.K.PartialEq.eq now.self (flat_map (steps g.K.PartialEq.eq now.self) (node_entries opposite name gate ls)) c.node.new.self) slice
+    (cut_node g.K.PartialEq.eq now.self c.node.new.self name gate _ (c.in_ok-lit.ensures.written name all))))
 
 pub loop-number-preserved : goal.loop-number-preserved
 loop-number-preserved g c =

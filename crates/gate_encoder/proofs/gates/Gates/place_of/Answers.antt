@@ -31,8 +31,16 @@ returns-else-added-clause-place g c =
 
 pub returns-then-added-clause-within : goal.returns-then-added-clause-within
 returns-then-added-clause-within g c =
-    omega (arith, length-zip c.insert_full.new.self.keys c.push_reserved.new.self.items, c.in_ok-place.ensures.within, rw c.if-added.true at c.in_ok-place.ensures.len, c.self.invariant, ap length c.push_reserved.ensures.items,
-    ap length c.reserve.ensures.items, length-append c.reserve.new.self.items (false ∷ []))
+    omega (
+      arith,
+      length-zip c.insert_full.new.self.keys c.push_reserved.new.self.items,
+      c.in_ok-place.ensures.within,
+      rw c.if-added.true at c.in_ok-place.ensures.len,
+      c.self.invariant,
+      ap length c.push_reserved.ensures.items,
+      ap length c.reserve.ensures.items,
+      length-append c.reserve.new.self.items (false ∷ []),
+    )
 
 pub returns-else-added-clause-within : goal.returns-else-added-clause-within
 returns-else-added-clause-within g c =
