@@ -1,5 +1,5 @@
 -- Clauses put behind others, all of them or the first ones.
-use Rattle.std.proofs.Common.{◌≡◌, ℕ, ◌+◌, ◌-◌, ◌<◌, ◌≤◌, zero, suc, Bool, true, false, List, [], ◌∷◌, ◌++◌, length, map, take, refl, sym, ap, ◌∙◌, subst, append_assoc, length-append, Result, Ok, Err, OnErr, All, get_or, arith}
+use Rattle.std.proofs.Common.{◌≡◌, ℕ, ◌≤◌, zero, suc, Bool, true, false, List, [], ◌∷◌, ◌++◌, length, map, take, refl, sym, ap, ◌∙◌, append_assoc, length-append, Result, Ok, Err, OnErr, All, arith}
 use Rattle.std.proofs.lemmas.List.{append-nil, map-append, length-map, take-append-le, take_all, take-map}
 use Rattle.sat_clauses.specs.declared.literal.Lit.{Lit}
 use Rattle.sat_clauses.specs.Literals.{IsLiteral, opposite}

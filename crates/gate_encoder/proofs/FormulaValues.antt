@@ -1,17 +1,16 @@
 -- Values that agree with the entries of a tree give its literal the tree's value.
-use Rattle.std.proofs.Common.{◌≡◌, ℕ, zero, suc, ◌+◌, ◌<◌, Bool, true, false, not, ◌&&◌, ◌||◌, List, [], ◌∷◌, ◌++◌, length, map, slice_index_or, Contains, refl, sym, ap, ◌∙◌, subst, if◌then◌else◌, arith}
+use Rattle.std.proofs.Common.{◌≡◌, ℕ, zero, suc, ◌+◌, ◌<◌, Bool, true, false, not, ◌&&◌, ◌||◌, List, [], ◌∷◌, length, map, slice_index_or, Contains, refl, sym, ap, ◌∙◌, arith}
 use Rattle.std.specs.Bool.{beq}
-use Rattle.std.specs.List.{list_any, list_all}
 use Rattle.std.proofs.lemmas.Bool.{true≢false, and_parts}
 use Rattle.std.proofs.lemmas.List.Elements.{Contains-append_left, Contains-append_right}
 use Rattle.std.proofs.lemmas.List.Folds.{list_all-append}
-use Rattle.arena_walk.specs.Tree.{Tree, Trees, branch, no_trees, tree_and, list_of, size, size_each, nodes, nodes_each, EachNode, EachNodeOf, fold_tree, fold_each}
+use Rattle.arena_walk.specs.Tree.{Tree, Trees, branch, no_trees, tree_and, list_of, size, size_each, nodes, nodes_each, EachNode, EachNodeOf, fold_each}
 use Rattle.arena_walk.specs.Forest.{HasArity}
 use Rattle.dj_formula.specs.declared.formula.Gate.{Gate}
 use Rattle.dj_formula.specs.declared.formula.Gate.TheVariants.{Constant, Feature, Not, And, Or, Implies, Same}
 use Rattle.dj_formula.specs.Gates.{operands, IsBelow}
 use Rattle.dj_formula.specs.Value.{gate_value, value_of as value_of_tree, HasFeaturesBelow}
-use Rattle.gate_encoder.specs.Entries.{Literal, negated, Entry, agrees, agree, value_of}
+use Rattle.gate_encoder.specs.Entries.{Literal, negated, agrees, agree, value_of}
 use Rattle.gate_encoder.specs.Formulas.{Names, node_entries, node_literal, own_literal, tree_literal, trees_literals, tree_entries, trees_entries}
 
 same_true : (a b : Bool) → (beq a b && true) ≡ true → beq a true ≡ b

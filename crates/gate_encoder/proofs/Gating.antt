@@ -1,16 +1,15 @@
 -- What the steps of a gate make of what was written.
-use Rattle.std.proofs.Common.{◌≡◌, ℕ, ◌+◌, ◌<◌, ◌≤◌, suc, Bool, true, false, not, cond, ◌&&◌, ◌||◌, List, [], ◌∷◌, ◌++◌, length, map, take, fold, set, Option, Some, None, refl, sym, ap, ◌∙◌, subst, unwrap_or, if◌then◌else◌, append_assoc, slice_index_or, length-append, arith}
+use Rattle.std.proofs.Common.{◌≡◌, ℕ, ◌+◌, ◌<◌, ◌≤◌, suc, Bool, true, false, not, cond, ◌||◌, List, [], ◌∷◌, ◌++◌, length, map, take, set, Some, None, refl, sym, ap, ◌∙◌, unwrap_or, if◌then◌else◌, append_assoc, slice_index_or, length-append, arith}
 use Rattle.std.specs.Cmp.{IsEquivalence}
 use Rattle.std.specs.List.{list_any, position_or_len, zip}
 use Rattle.std.specs.Map.{keys_of, lookup, set_value}
-use Rattle.std.proofs.lemmas.Bool.{true≢false, or_left, or_right, not_from_true}
+use Rattle.std.proofs.lemmas.Bool.{true≢false, or_left, or_right}
 use Rattle.std.proofs.lemmas.List.{map-append, take-append-le, take-map, length-map, append-nil, get_or_default}
-use Rattle.std.proofs.lemmas.List.Folds.{list_any-append}
 use Rattle.std.proofs.lemmas.List.Sums.{fold-append}
 use Rattle.std.proofs.lemmas.Map.Made.{keys_of-zip}
 use Rattle.sat_clauses.specs.declared.literal.Lit.{Lit}
 use Rattle.sat_clauses.specs.ClauseLists.{distinct_literals}
-use Rattle.gate_encoder.specs.Writing.{Written, Step, new_number, new_clause, whole_gate, after_step, after_steps, gate_steps, has_number, has_gate, literal, IsCut}
+use Rattle.gate_encoder.specs.Writing.{Written, Step, new_number, new_clause, whole_gate, after_step, after_steps, gate_steps, has_number, has_gate, IsCut}
 use Rattle.gate_encoder.specs.Appending.{with_clauses, IsBegun}
 use Rattle.gate_encoder.proofs.Keys.{mark_at, mark_set}
 

@@ -1,11 +1,11 @@
 -- Keys with marks: places of keys, and what a number or a mark changes.
-use Rattle.std.proofs.Common.{◌≡◌, ℕ, suc, ◌+◌, ◌<◌, ◌≤◌, Bool, true, false, not, cond, ◌&&◌, ◌||◌, List, [], ◌∷◌, ◌++◌, length, map, Option, Some, None, is_some, refl, sym, ap, ◌∙◌, subst, unwrap_or, if◌then◌else◌, position, set, slice_index_or, arith}
+use Rattle.std.proofs.Common.{◌≡◌, ℕ, suc, ◌+◌, Bool, true, false, not, cond, List, [], ◌∷◌, ◌++◌, length, Some, None, refl, sym, ap, ◌∙◌, unwrap_or, if◌then◌else◌, position, set, slice_index_or, arith}
 use Rattle.std.specs.List.{list_any, position_or_len, zip}
 use Rattle.std.specs.Map.{keys_of, lookup, set_value}
 use Rattle.std.proofs.lemmas.Map.Made.{keys_of-zip}
 use Rattle.std.proofs.lemmas.Bool.{not-true, not-false}
 use Rattle.sat_clauses.specs.declared.literal.Lit.{Lit}
-use Rattle.gate_encoder.specs.Writing.{Written, new_number, after_step, has_number, has_gate, literal}
+use Rattle.gate_encoder.specs.Writing.{Written, new_number, after_step}
 
 -- a place that was found is that of the number
 pub found_place : {K : Type 0} (test : K → Bool) (ks : List K) (place : ℕ) → Some place ≡ position test ks → place ≡ position_or_len test ks

@@ -1,21 +1,18 @@
 -- When an assignment holds the clauses that an entry writes.
-use Rattle.std.proofs.Common.{◌≡◌, ℕ, ◌+◌, ◌-◌, Bool, true, false, not, cond, ◌&&◌, ◌||◌, List, [], ◌∷◌, ◌++◌, map, slice_index_or, refl, sym, ap, ◌∙◌, subst, if◌then◌else◌, arith}
+use Rattle.std.proofs.Common.{◌≡◌, Bool, true, false, not, ◌&&◌, ◌||◌, List, [], ◌∷◌, ◌++◌, map, refl, sym, ap, ◌∙◌, if◌then◌else◌}
 use Rattle.std.specs.Bool.{beq}
-use Rattle.std.specs.List.{list_any, list_all, position_or_len}
-use Rattle.std.specs.Map.{keys_of}
-use Rattle.std.proofs.lemmas.Bool.{true≢false, or_left, or_right, and_parts, and_from}
-use Rattle.std.proofs.lemmas.List.{append_assoc}
-use Rattle.std.proofs.lemmas.List.Folds.{list_any-append, list_all-append, list_all-map}
+use Rattle.std.specs.List.{list_any, list_all}
+use Rattle.std.proofs.lemmas.Bool.{true≢false, or_left, or_right}
+use Rattle.std.proofs.lemmas.List.Folds.{list_any-append, list_all-append}
 use Rattle.sat_clauses.specs.declared.literal.Lit.{Lit}
 use Rattle.sat_clauses.specs.Literals.{opposite, is_true, same_literal}
 use Rattle.sat_clauses.specs.ClauseLists.{has, holds, holds_clause, with_literal, joined, distinct_literals}
 use Rattle.sat_clauses.proofs.SetLemmas.{one_literal}
 use Rattle.sat_clauses.proofs.SoundLemmas.{opposite_value}
-use Rattle.gate_encoder.specs.Entries.{Literal, Entry, numbered, stated, all_of, any_of, equal_of, agrees, value_of, map_literals}
-use Rattle.gate_encoder.specs.Writing.{Written, has_gate, literal, lit_in, write, gate_steps, after_steps, all_clauses, any_clauses, equal_clauses}
+use Rattle.gate_encoder.specs.Entries.{stated, all_of, any_of, equal_of}
+use Rattle.gate_encoder.specs.Writing.{Written, has_gate, literal, write, gate_steps, after_steps, all_clauses, any_clauses, equal_clauses}
 use Rattle.gate_encoder.specs.Appending.{with_clauses}
-use Rattle.gate_encoder.specs.Laws.{value_in, is_gate, gate_key, parts_of, own_keys}
-use Rattle.gate_encoder.proofs.Gating.{gate_is, gate_kept}
+use Rattle.gate_encoder.proofs.Gating.{gate_is}
 
 module _ (values : List Bool) where
   held_by : (clause : List Lit) (lit : Lit) → has clause lit ≡ true → is_true values lit ≡ true → holds_clause values clause ≡ true

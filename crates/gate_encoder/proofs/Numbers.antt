@@ -1,16 +1,16 @@
 -- Keys that have a number keep it, whatever is written after.
-use Rattle.std.proofs.Common.{◌≡◌, ℕ, ◌+◌, ◌<◌, ◌≤◌, suc, Bool, true, false, not, cond, ◌&&◌, ◌||◌, List, [], ◌∷◌, ◌++◌, length, map, take, fold, refl, sym, ap, ◌∙◌, subst, if◌then◌else◌, length-append, arith}
+use Rattle.std.proofs.Common.{◌≡◌, ℕ, ◌+◌, ◌<◌, suc, Bool, true, false, ◌||◌, List, [], ◌∷◌, ◌++◌, length, map, take, refl, sym, ap, ◌∙◌, subst, if◌then◌else◌, length-append, arith}
 use Rattle.std.specs.Cmp.{IsEquivalence}
-use Rattle.std.specs.List.{list_any, list_all, position_or_len, flat_map}
-use Rattle.std.specs.Map.{keys_of, set_value}
-use Rattle.std.proofs.lemmas.Bool.{true≢false, or_left, or_right, and_parts, and_from}
-use Rattle.std.proofs.lemmas.List.{append-nil, append_assoc, length-map, take-append-le, take_all}
+use Rattle.std.specs.List.{list_any, list_all, position_or_len}
+use Rattle.std.specs.Map.{keys_of}
+use Rattle.std.proofs.lemmas.Bool.{or_left, or_right, and_parts, and_from}
+use Rattle.std.proofs.lemmas.List.{append_assoc, length-map, take-append-le, take_all}
 use Rattle.std.proofs.lemmas.List.Folds.{list_any-append}
 use Rattle.std.proofs.lemmas.List.Sums.{fold-append}
 use Rattle.std.proofs.lemmas.Map.{keys-set_value}
 use Rattle.sat_clauses.specs.declared.literal.Lit.{Lit}
 use Rattle.gate_encoder.specs.Entries.{Literal, Entry, map_literals}
-use Rattle.gate_encoder.specs.Writing.{Written, Step, new_number, new_clause, whole_gate, after_step, after_steps, gate_steps, steps, write, write_all, all_steps, has_number, has_gate, literal, lit_in, IsNumbered, IsCut}
+use Rattle.gate_encoder.specs.Writing.{Written, Step, new_number, new_clause, whole_gate, after_step, after_steps, gate_steps, steps, write, write_all, all_steps, has_number, has_gate, lit_in, IsNumbered, IsCut}
 use Rattle.gate_encoder.proofs.Gating.{keys_of-push, place_in_front, number_place, gated_has_number, open_steps, gate_kept}
 
 -- a place before the end is that of a key

@@ -1,11 +1,10 @@
 -- Entries under other names write the same clauses.
-use Rattle.std.proofs.Common.{◌≡◌, ℕ, ◌+◌, ◌<◌, Bool, true, false, not, cond, ◌&&◌, ◌||◌, List, [], ◌∷◌, ◌++◌, map, fold, Option, Some, None, Contains, unwrap_or, refl, sym, ap, ◌∙◌, subst, if◌then◌else◌, arith}
-use Rattle.std.specs.List.{list_any, position_or_len, flat_map}
+use Rattle.std.proofs.Common.{◌≡◌, ◌+◌, Bool, true, false, not, cond, ◌||◌, List, [], ◌∷◌, ◌++◌, map, Some, Contains, unwrap_or, refl, sym, ap, ◌∙◌, subst, if◌then◌else◌, arith}
+use Rattle.std.specs.List.{list_any, position_or_len}
 use Rattle.std.specs.Map.{keys_of, lookup, set_value}
 use Rattle.std.proofs.lemmas.List.{map-append}
 use Rattle.std.proofs.lemmas.List.Elements.{Contains-append_left, Contains-append_right}
 use Rattle.sat_clauses.specs.declared.literal.Lit.{Lit}
-use Rattle.sat_clauses.specs.Literals.{opposite}
 use Rattle.gate_encoder.specs.Entries.{Literal, Entry, numbered, stated, all_of, any_of, equal_of, map_literals}
 use Rattle.gate_encoder.specs.Writing.{Written, Step, nothing, new_number, new_clause, whole_gate, has_number, has_gate, literal, lit_in, after_step, after_steps, gate_steps, steps, write, write_all, all_clauses, any_clauses, equal_clauses}
 use Rattle.gate_encoder.specs.Laws.{parts_of, own_keys, keys_in, renamed_literal, renamed, renamed_keys}

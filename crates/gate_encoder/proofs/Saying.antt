@@ -1,5 +1,5 @@
 -- The clauses of entries say that the values of keys agree with each of them.
-use Rattle.std.proofs.Common.{◌≡◌, ℕ, zero, suc, ◌+◌, ◌-◌, ◌<◌, Bool, true, false, not, cond, ◌&&◌, ◌||◌, List, [], ◌∷◌, ◌++◌, length, map, Option, Some, None, slice_index_or, unwrap_or, Contains, refl, sym, ap, ◌∙◌, subst, inl, inr, ◌⊎◌, if◌then◌else◌, arith}
+use Rattle.std.proofs.Common.{◌≡◌, ℕ, zero, suc, ◌+◌, ◌-◌, ◌<◌, Bool, true, false, not, cond, ◌&&◌, ◌||◌, List, [], ◌∷◌, ◌++◌, length, map, Some, slice_index_or, unwrap_or, Contains, refl, sym, ap, ◌∙◌, subst, inl, inr, ◌⊎◌, arith}
 use Rattle.std.specs.Bool.{beq}
 use Rattle.std.specs.Cmp.{IsEquivalence}
 use Rattle.std.specs.List.{list_any, list_all, position_or_len}
@@ -13,9 +13,9 @@ use Rattle.sat_clauses.specs.Literals.{is_true}
 use Rattle.sat_clauses.specs.ClauseLists.{holds}
 use Rattle.gate_encoder.specs.Entries.{Literal, Entry, numbered, stated, all_of, any_of, equal_of, agrees, agree, value_of, map_literals}
 use Rattle.gate_encoder.specs.Writing.{Written, Step, nothing, has_number, has_gate, literal, lit_in, new_number, after_step, after_steps, gate_steps, steps, write, write_all, all_clauses, any_clauses, equal_clauses}
-use Rattle.gate_encoder.specs.Laws.{IsEquality, parts_of, own_keys, gate_key, is_gate, AreConsistent, are_in_order, value_in}
-use Rattle.gate_encoder.proofs.Gating.{number_marks, gate_is, gate_kept, gated_has_number}
-use Rattle.gate_encoder.proofs.Numbers.{Keeps, keeps_self, keeps_steps, keeps_all, keeps_after, numbers_key, gate_numbers, write_all-append}
+use Rattle.gate_encoder.specs.Laws.{IsEquality, parts_of, own_keys, gate_key, AreConsistent, are_in_order, value_in}
+use Rattle.gate_encoder.proofs.Gating.{number_marks, gate_is, gate_kept}
+use Rattle.gate_encoder.proofs.Numbers.{Keeps, keeps_steps, keeps_all, keeps_after, numbers_key, gate_numbers}
 use Rattle.gate_encoder.proofs.Meaning.{all_holds, any_holds, equal_holds, stated_holds}
 
 -- functions that give the same where a test holds

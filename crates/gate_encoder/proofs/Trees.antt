@@ -1,22 +1,20 @@
 -- The literals and entries of trees that stand one behind the other, and of one node more.
-use Rattle.std.proofs.Common.{◌≡◌, ℕ, ◌+◌, ◌-◌, ◌<◌, ◌≤◌, zero, suc, Bool, true, false, not, cond, ◌&&◌, List, [], ◌∷◌, ◌++◌, length, map, take, drop, fold, slice_index_or, refl, sym, ap, ◌∙◌, subst, if◌then◌else◌, length-append, arith}
+use Rattle.std.proofs.Common.{◌≡◌, ℕ, ◌+◌, ◌<◌, zero, suc, Bool, true, false, List, [], ◌∷◌, ◌++◌, length, map, fold, slice_index_or, refl, sym, ap, ◌∙◌, arith}
 use Rattle.std.specs.Cmp.{IsEquivalence}
-use Rattle.std.specs.List.{list_all, flat_map, position_or_len}
-use Rattle.std.specs.Map.{keys_of}
-use Rattle.std.proofs.lemmas.Bool.{and_parts, and_from, true≢false}
-use Rattle.std.proofs.lemmas.List.{append-nil, append_assoc, length-map, map-append, get_or-map}
-use Rattle.std.proofs.lemmas.List.Folds.{list_all-append}
-use Rattle.arena_walk.specs.Tree.{Tree, Trees, branch, trees_of, over, size, size_each}
+use Rattle.std.specs.List.{flat_map}
+use Rattle.std.proofs.lemmas.Bool.{and_parts}
+use Rattle.std.proofs.lemmas.List.{append-nil, append_assoc}
+use Rattle.arena_walk.specs.Tree.{Tree, trees_of, over, size, size_each}
 use Rattle.arena_walk.proofs.Visitors.{size_each-append}
 use Rattle.dj_formula.specs.declared.formula.Gate.{Gate}
 use Rattle.dj_formula.specs.declared.formula.Gate.TheVariants.{Constant, Feature, Not, And, Or, Implies, Same}
 use Rattle.dj_formula.specs.Gates.{operands, IsBelow}
 use Rattle.sat_clauses.specs.declared.literal.Lit.{Lit}
 use Rattle.sat_clauses.specs.Literals.{opposite}
-use Rattle.gate_encoder.specs.Entries.{Literal, negated, Entry, all_of, any_of, equal_of, map_literals}
-use Rattle.gate_encoder.specs.Writing.{Written, Step, steps, write, write_all, all_steps, has_number, literal, lit_in, all_clauses, any_clauses, equal_clauses}
+use Rattle.gate_encoder.specs.Entries.{Literal, negated, Entry, all_of, any_of, equal_of}
+use Rattle.gate_encoder.specs.Writing.{Written, steps, write, write_all, all_steps, has_number, literal, lit_in, all_clauses, any_clauses, equal_clauses}
 use Rattle.gate_encoder.specs.Formulas.{Names, node_entries, node_literal, own_literal, tree_literal, trees_literals, tree_entries, trees_entries}
-use Rattle.gate_encoder.proofs.Numbers.{Keeps, keeps_self, keeps_steps, keeps_all, gate_numbers, lit_keeps, are_numbered}
+use Rattle.gate_encoder.proofs.Numbers.{Keeps, keeps_self, keeps_steps, gate_numbers, lit_keeps, are_numbered}
 
 module _ {K : Type 0} (names : Names K) where
   pub literals-append : (first : ℕ) (xs ys : List (Tree Gate)) → trees_literals names first (trees_of (xs ++ ys)) ≡ trees_literals names first (trees_of xs) ++ trees_literals names (first + size_each (trees_of xs)) (trees_of ys)

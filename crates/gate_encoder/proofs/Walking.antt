@@ -1,13 +1,13 @@
 -- The loop over a formula's nodes: what was written for the trees that no node has taken yet.
 use Rattle.std.proofs.Common.{◌≡◌, ℕ, ◌+◌, ◌-◌, ◌<◌, ◌≤◌, zero, suc, Bool, true, ◌&&◌, List, [], ◌∷◌, ◌++◌, length, map, take, drop, fold, slice_get, Some, refl, sym, ap, ◌∙◌, subst, All, length-append, length-take, length-drop, Result, Ok, Err, OnErr, arith}
 use Rattle.std.specs.Cmp.{IsEquivalence}
-use Rattle.std.specs.List.{list_all, flat_map, AllZip}
+use Rattle.std.specs.List.{flat_map, AllZip}
 use Rattle.std.proofs.lemmas.Bool.{and_from, and_parts}
 use Rattle.std.proofs.lemmas.List.{append-nil, append_assoc, length-map, map-append, take-append-drop, take-append-le, drop-append-le, take_all, drop_all}
 use Rattle.std.proofs.lemmas.List.Folds.{list_all-append}
-use Rattle.arena_walk.specs.Tree.{Tree, trees_of, over, root_of, size, size_each, EachNode}
+use Rattle.arena_walk.specs.Tree.{Tree, trees_of, over, root_of, size_each, EachNode}
 use Rattle.arena_walk.specs.Forest.{tree_at, first_number, HasArity}
-use Rattle.arena_walk.proofs.Visitors.{nodes_to, IsAlong, along_start, along_enough, along_kids, along_next, along_end, along_at, next_node, size_within, size_each-append}
+use Rattle.arena_walk.proofs.Visitors.{nodes_to, IsAlong, along_start, along_enough, along_kids, along_next, along_end, along_at, next_node, size_each-append}
 use Rattle.dj_formula.specs.declared.formula.Gate.{Gate}
 use Rattle.dj_formula.specs.declared.formula.Gate.TheVariants.{Constant, Feature, Not, And, Or, Implies, Same}
 use Rattle.dj_formula.specs.declared.formula.Formula.{Formula}

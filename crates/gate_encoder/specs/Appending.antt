@@ -1,7 +1,6 @@
 -- Clauses that are appended to others, all of them or only the first ones.
-use Rattle.std.specs.Prelude.{◌≡◌, ℕ, ◌≤◌, List, [], ◌∷◌, ◌++◌, length, map, take, All}
+use Rattle.std.specs.Prelude.{◌≡◌, ℕ, ◌≤◌, List, [], ◌∷◌, ◌++◌, length, map, take}
 use Rattle.sat_clauses.specs.declared.literal.Lit.{Lit}
-use Rattle.sat_clauses.specs.Literals.{IsLiteral}
 use Rattle.sat_clauses.specs.ClauseLists.{distinct_literals}
 use Rattle.gate_encoder.specs.declared.parts.Parts.{Parts}
 use Rattle.gate_encoder.specs.declared.parts.Parts.TheVariants.{All as AllOf, Any as AnyOf, Equal}

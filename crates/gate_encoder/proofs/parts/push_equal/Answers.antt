@@ -1,6 +1,3 @@
-use Rattle.std.proofs.Common.{◌≡◌, ◌∷◌, []}
-use Rattle.sat_clauses.specs.Literals.{opposite}
-use Rattle.gate_encoder.specs.Appending.{with_clauses}
 use Rattle.gate_encoder.proofs.Appended.{on_err, two_of_four, three_of_four}
 use Rattle.gate_encoder.proofs.parts.push_equal.Goals as goal
 

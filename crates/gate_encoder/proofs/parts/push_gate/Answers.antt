@@ -1,7 +1,5 @@
-use Rattle.std.proofs.Common.{◌≡◌, ◌∷◌, ◌++◌, [], List, ◌∙◌, map, ap, sym, subst, All, OnOk, OnErr}
-use Rattle.sat_clauses.specs.declared.literal.Lit.{Lit}
-use Rattle.sat_clauses.specs.Literals.{IsLiteral, opposite}
-use Rattle.gate_encoder.specs.Writing.{any_clauses}
+use Rattle.std.proofs.Common.{◌≡◌, ◌∙◌, ap, sym, subst, All, OnOk, OnErr}
+use Rattle.sat_clauses.specs.Literals.{IsLiteral}
 use Rattle.gate_encoder.specs.Appending.{with_clauses, IsBegun, clauses_of, literals_in}
 use Rattle.gate_encoder.proofs.Appended.{opposites_are, any_is}
 use Rattle.gate_encoder.proofs.parts.push_gate.Goals as goal

@@ -1,6 +1,4 @@
-use Rattle.std.proofs.Common.{◌≡◌, ◌∷◌, [], ◌∙◌, map, ap}
-use Rattle.sat_clauses.specs.Literals.{opposite}
-use Rattle.gate_encoder.specs.Appending.{with_clauses}
+use Rattle.std.proofs.Common.{◌∙◌}
 use Rattle.gate_encoder.proofs.Appended.{on_err, begun_whole}
 use Rattle.gate_encoder.proofs.parts.push_junction.Goals as goal
 

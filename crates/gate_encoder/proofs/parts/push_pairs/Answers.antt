@@ -1,4 +1,4 @@
-use Rattle.std.proofs.Common.{◌∷◌, [], length, arith}
+use Rattle.std.proofs.Common.{◌∷◌, [], arith}
 use Rattle.gate_encoder.proofs.Appended.{on_err, begun_each}
 use Rattle.gate_encoder.proofs.parts.push_pairs.Goals as goal
 

@@ -1,11 +1,11 @@
-use Rattle.std.proofs.Common.{◌≡◌, ◌+◌, ◌-◌, ◌<◌, ◌≤◌, List, [], ◌∷◌, ◌++◌, Some, length, fold, take, drop, length-take, length-drop, ap, sym, ◌∙◌, subst, All, arith}
+use Rattle.std.proofs.Common.{◌≡◌, ◌+◌, ◌-◌, List, [], ◌∷◌, ◌++◌, length, fold, take, drop, length-take, length-drop, ap, sym, ◌∙◌, subst, All, arith}
 use Rattle.std.specs.List.{flat_map}
 use Rattle.std.proofs.lemmas.List.{same_from_push}
 use Rattle.arena_walk.proofs.SlotLemmas.{same_first}
 use Rattle.dj_formula.specs.Gates.{operands}
 use Rattle.sat_clauses.specs.declared.literal.Lit.{Lit}
 use Rattle.sat_clauses.specs.Literals.{opposite}
-use Rattle.gate_encoder.specs.Writing.{Written, IsNumbered, steps, write, literal, IsCut}
+use Rattle.gate_encoder.specs.Writing.{IsNumbered, steps, write, literal, IsCut}
 use Rattle.gate_encoder.specs.Formulas.{node_entries, node_literal}
 use Rattle.gate_encoder.proofs.Walking.{stand_first, stand_last, stand_enough, stand_below, stand_next, stand_cut, stand_lits, stand_one, to_the_end, last_of, numbered_next, cut_node, cut_on_err}
 use Rattle.gate_encoder.proofs.gates.Gates.formula.Goals as goal

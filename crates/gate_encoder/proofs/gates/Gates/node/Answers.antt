@@ -1,4 +1,4 @@
-use Rattle.std.proofs.Common.{◌≡◌, ap}
+use Rattle.std.proofs.Common.{ap}
 use Rattle.sat_clauses.specs.Literals.{opposite}
 use Rattle.gate_encoder.specs.Entries.{all_of, any_of}
 use Rattle.gate_encoder.specs.Formulas.{node_entries}

@@ -1,7 +1,6 @@
-use Rattle.std.proofs.Common.{◌≡◌, ◌≤◌, ℕ, subst, ◌∙◌, List, [], ◌∷◌, ◌++◌, Bool, false, sym, ap, length, length-append, arith}
+use Rattle.std.proofs.Common.{◌≤◌, ℕ, subst, ◌∙◌, List, [], ◌∷◌, ◌++◌, Bool, false, sym, ap, length, length-append, arith}
 use Rattle.gate_encoder.specs.Writing.{Written}
 use Rattle.std.specs.List.{position_or_len, zip}
-use Rattle.std.specs.Map.{keys_of}
 use Rattle.std.proofs.lemmas.Slice.Zip.{length-zip}
 use Rattle.gate_encoder.proofs.Keys.{view_keys, number_added, number_kept}
 use Rattle.gate_encoder.proofs.Gating.{length_number}
