@@ -1,0 +1,12 @@
+pub mod Keys
+pub mod Appended
+pub mod Gating
+pub mod Nodes
+pub mod Numbers
+pub mod Trees
+pub mod Walking
+pub mod Meaning
+pub mod Saying
+pub mod Deciding
+pub mod Renaming
+pub mod FormulaValues

@@ -1,0 +1,5 @@
+pub mod Entries
+pub mod Writing
+pub mod Appending
+pub mod Formulas
+pub mod Laws
