@@ -10,8 +10,8 @@ ghost use Rattle.derivation_checker.specs.declared.fault.CheckError.TheVariants.
 
 use crate::fault::{CheckError, StepFault};
 use crate::known::known_clause;
-use crate::resolution::{literals_of, resolve};
-use sat_clauses::{Clauses, Derivation, Lit, Step};
+use crate::resolution::resolve;
+use sat_clauses::{Clauses, Derivation, Lit, Resolvent, Step};
 use std::alloc::Global;
 
 /// Accepts a derivation of the empty clause from the clauses. Each other derivation is refused with its first fault.
@@ -43,9 +43,10 @@ fn make_clauses(
     ensures count { IfOk result (λ made. length made.items ≡ length steps.now) }
     ensures fault { IfErr result (λ e. IfFault e (StepsHaveFault clauses.now (map resolution_of steps.now))) }
 {
+    let mut making = Resolvent::new(alloc);
     let mut made = Vec::new(alloc);
     for step in steps {
-        let clause = make_clause(alloc, clauses, made.as_slice(), step)?;
+        let clause = make_clause(alloc, clauses, made.as_slice(), step, &mut making)?;
         let Ok(()) = made.push(clause) else {
             return Err(CheckError::NoMemory);
         };
@@ -53,12 +54,14 @@ fn make_clauses(
     Ok(made)
 }
 
-/// The clause that a step makes of the given clauses and those that the steps before it made.
+/// The clause that a step makes of the given clauses and those that the steps before it made. It is put together in
+/// `making`, whatever that was before.
 fn make_clause(
     alloc: Global,
     clauses: &Clauses,
     made: &[Vec<Lit>],
     step: &Step,
+    making: &mut Resolvent,
 ) -> Result<Vec<Lit>, CheckError>
     requires { All (IsDistinct same_literal) (literal_lists made.now) }
     ensures made { IfOk result (λ clause. Makes (clauses.now ++ literal_lists made.now) (resolution_of step.now) clause.items) }
@@ -69,14 +72,14 @@ fn make_clause(
     let Some(start) = known_clause(clauses, made, step.first) else {
         return Err(CheckError::Fault(StepFault::UnknownClause(number, step.first)));
     };
-    let mut clause = literals_of(alloc, start)?;
+    making.start(start)?;
     for (place, link) in step.chain.iter().enumerate() {
         let Some(other) = known_clause(clauses, made, link.clause) else {
             return Err(CheckError::Fault(StepFault::UnknownClause(number, link.clause)));
         };
-        if !resolve(&mut clause, link.pivot, other)? {
+        if !resolve(making, link.pivot, other)? {
             return Err(CheckError::Fault(StepFault::NoPivot(number, place as u64)));
         }
     }
-    Ok(Vec::from_slice(alloc, clause.as_slice())?)
+    Ok(making.literals(alloc)?)
 }

@@ -134,30 +134,47 @@ fn clauses_are_sets(rt: HostRuntime) -> Result<(), Fail> {
     Ok(())
 }
 
-#[test]
-fn long_chains_are_checked(rt: HostRuntime) -> Result<(), Fail> {
-    let alloc = rt.alloc();
-    let mut clauses = Clauses::new(alloc);
-    let mut chain = Vec::new(alloc);
-    add(&rt, &mut clauses, &[literal(1)])?;
-    for var in 1..100_000u64 {
-        let pivot = Lit {
-            var,
-            positive: true,
-        };
-        let next = Lit {
-            var: var + 1,
-            positive: true,
-        };
-        add(&rt, &mut clauses, &[pivot.opposite(), next])?;
-        chain.push(Link { pivot, clause: var })?;
+/// A literal of a variable from 1 on.
+fn variable(var: u64) -> Lit {
+    Lit {
+        var,
+        positive: true,
     }
-    add(&rt, &mut clauses, &[literal(-100_000)])?;
-    chain.push(Link {
-        pivot: literal(100_000),
-        clause: 100_000,
-    })?;
+}
+
+/// A clause of many literals, of which each is refuted by two clauses: a step for each of them, and a last one that
+/// takes them out from the front.
+#[test]
+fn long_questions_are_checked(rt: HostRuntime) -> Result<(), Fail> {
+    let alloc = rt.alloc();
+    let count = 100_000u64;
+    let last = variable(count + 1);
+    let mut question = Vec::new(alloc);
+    for var in 1..=count {
+        question.push(variable(var))?;
+    }
+    let mut clauses = Clauses::new(alloc);
+    add(&rt, &mut clauses, &question)?;
     let mut steps = Vec::new(alloc);
+    let mut chain = Vec::new(alloc);
+    for var in 1..=count {
+        let pivot = variable(var);
+        add(&rt, &mut clauses, &[pivot.opposite(), last])?;
+        add(&rt, &mut clauses, &[last.opposite(), pivot.opposite()])?;
+        let mut links = Vec::new(alloc);
+        links.push(Link {
+            pivot: last,
+            clause: 2 * var,
+        })?;
+        steps.push(Step {
+            first: 2 * var - 1,
+            chain: links,
+        })?;
+        chain.push(Link {
+            pivot,
+            clause: 2 * count + var,
+        })?;
+    }
     steps.push(Step { first: 0, chain })?;
     check_derivation(alloc, &clauses, &Derivation { steps })?;
     Ok(())

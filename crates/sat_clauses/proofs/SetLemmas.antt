@@ -5,7 +5,7 @@ use Rattle.std.specs.List.{list_any}
 use Rattle.std.proofs.lemmas.Bool.{and_parts, and_from, eqb-true, eq-eqb}
 use Rattle.std.proofs.lemmas.Bool.{cond_both}
 use Rattle.std.proofs.lemmas.List.{length-map, get_or-map}
-use Rattle.std.proofs.lemmas.List.Elements.{All-push, All-get_or}
+use Rattle.std.proofs.lemmas.List.Elements.{All-push, All-get_or, All-head, All-tail, All-filter}
 use Rattle.std.specs.declared.vec.Vec.{Vec}
 use Rattle.std.proofs.lemmas.List.Folds.{list_any-append}
 use Rattle.sat_clauses.specs.declared.literal.Lit.{Lit}
@@ -101,6 +101,14 @@ joined-push clause (x ∷ xs) lit = joined-push (with_literal clause x) xs lit
 -- what holds of each literal of a clause and of one more
 pub All-with_literal : (P : Lit → Type 0) (clause : List Lit) (lit : Lit) → All P clause → P lit → All P (with_literal clause lit)
 All-with_literal P clause lit all here = cond_both (has clause lit) clause (clause ++ lit ∷ []) (λ ls. All P ls) (λ _. all) (λ _. All-push P clause lit all here)
+
+pub All-joined : (P : Lit → Type 0) (clause lits : List Lit) → All P clause → All P lits → All P (joined clause lits)
+All-joined P clause [] all more = all
+All-joined P clause (x ∷ xs) all more = All-joined P (with_literal clause x) xs (All-with_literal P clause x all (All-head P x xs more)) (All-tail P x xs more)
+
+pub All-resolvent : (P : Lit → Type 0) (pivot : Lit) (clause other : List Lit) → All P clause → All P other → All P (resolvent pivot clause other)
+All-resolvent P pivot clause other all more =
+    All-joined P (without clause pivot) (without other (opposite pivot)) (All-filter (λ lit. not (same_literal pivot lit)) P clause all) (All-filter (λ lit. not (same_literal (opposite pivot) lit)) P other more)
 
 -- what holds of each clause holds of the one at a place
 pub clause_at : {A : Type 0} (P : List Lit → Type 0) (clauses : List (Vec Lit A)) (place : ℕ) (clause : Vec Lit A) → All P (literal_lists clauses) → place < length clauses → clause ≡ get_or clauses place clause → P clause.items

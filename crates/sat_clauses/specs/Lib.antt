@@ -2,3 +2,4 @@ pub mod Literals
 pub mod ClauseLists
 pub mod Derivations
 pub mod Laws
+pub mod Resolvents

@@ -1,9 +1,13 @@
 -- What a conflict teaches.
-use Rattle.std.specs.Prelude.{◌≡◌, ℕ, ◌<◌, List, [], MatchOption}
+use Rattle.std.specs.Prelude.{◌≡◌, ℕ, ◌<◌, List, [], None, ◌⊎◌, MatchOption}
 use Rattle.sat_clauses.specs.declared.literal.Lit.{Lit}
+use Rattle.std.specs.List.{IsDistinct}
+use Rattle.sat_clauses.specs.Literals.{same_literal, opposite}
 use Rattle.sat_clauses.specs.ClauseLists.{without}
 use Rattle.sat_clauses.specs.Derivations.{Resolution, Makes}
+use Rattle.sat_solver.specs.declared.entry.Entry.{Entry}
 use Rattle.sat_solver.specs.declared.lesson.Lesson.{Lesson}
+use Rattle.sat_solver.specs.declared.lesson.Measured.{Measured}
 use Rattle.sat_solver.specs.Entries.{IsFreeIn, IsFalseClause, Forces, up_to}
 use Rattle.sat_solver.specs.Trails.{TrailState}
 
@@ -14,6 +18,15 @@ pub record Asserts (trail : TrailState) (clause : List Lit) (lit : Lit) (level :
   pub free : IsFreeIn (up_to level trail.entries) lit
   pub forces : Forces (up_to level trail.entries) clause lit
   pub least : (lower : ℕ) → lower < level → ¬ IsFalseClause (up_to lower trail.entries) (without clause lit)
+
+-- the literals of a clause other than the opposite of an entry's are false up to a level, and up to no lower one: a level
+-- below the entry's, unless the entry is a decision
+pub record Stops (trail : TrailState) (clause : List Lit) (entry : Entry) (measured : Measured) : Type 0 where
+  pub literals : measured.clause.items ≡ clause
+  pub distinct : IsDistinct same_literal clause
+  pub others : IsFalseClause (up_to measured.level trail.entries) (without clause (opposite entry.lit))
+  pub least : (lower : ℕ) → lower < measured.level → ¬ IsFalseClause (up_to lower trail.entries) (without clause (opposite entry.lit))
+  pub lower : (measured.level < entry.level) ⊎ (entry.reason ≡ None)
 
 -- the step of a lesson that begins with the clause of a number
 abbrev pub step_of : ℕ → Lesson → Resolution

@@ -1,13 +1,14 @@
 //! Lessons: a clause made of a false one by resolution with the reasons of its literals.
-ghost use Rattle.std.specs.Prelude.{◌≡◌, ℕ, ◌<◌, ◌++◌, ◌∷◌, [], IfOk, OnOk};
+ghost use Rattle.std.specs.Prelude.{◌≡◌, ℕ, ◌<◌, IfOk, OnOk, IfSome, IfNone, IsSome};
+ghost use Rattle.std.specs.List.{IsDistinct};
+ghost use Rattle.sat_clauses.specs.Literals.{same_literal};
 ghost use Rattle.sat_clauses.specs.ClauseLists.{IsClause, resolvent, without};
 ghost use Rattle.sat_solver.specs.Entries.{IsFalseClause, up_to};
 ghost use Rattle.sat_solver.specs.Trails.{IsTrail};
 
-use crate::store::Store;
+use crate::entry::Entry;
 use crate::trail::Trail;
-use indexmap::IndexSet;
-use sat_clauses::{Link, Lit};
+use sat_clauses::{Link, Lit, Resolvent};
 use std::alloc::{AllocError as NoMemory, Global};
 
 /// What a conflict teaches: a clause, the links that lead to it from the false one, and the literal that it asserts. A
@@ -26,86 +27,95 @@ pub(crate) struct Assertion {
     pub(crate) level: u64,
 }
 
-/// A clause in the making, with the links that led to it.
+/// The literals of a clause, and the highest level among those other than one.
+#[derive(Drop)]
+pub(crate) struct Measured {
+    pub(crate) clause: Vec<Lit>,
+    pub(crate) level: u64,
+}
+
+/// A clause in the making. `latest` is how many of its literals are taken to be of the present level: it saves looks at
+/// the whole clause, and nothing rests on it.
 #[derive(Drop)]
 pub(crate) struct Making {
-    pub(crate) clause: IndexSet<Lit>,
-    pub(crate) chain: Vec<Link>,
+    pub(crate) clause: Resolvent,
+    latest: u64,
 }
 
 impl Making {
+    ghost use Rattle.sat_solver.specs.Lessons.{Stops};
+
+    /// Without literals.
+    pub(crate) fn new(alloc: Global) -> Making {
+        Making {
+            clause: Resolvent::new(alloc),
+            latest: 0,
+        }
+    }
+
     /// Begins with a clause.
-    pub(crate) fn new(alloc: Global, clause: &[Lit]) -> Result<Making, NoMemory>
+    pub(crate) fn start(&mut self, trail: &Trail, clause: &[Lit]) -> Result<(), NoMemory>
         requires { IsClause clause.now }
-        ensures clause { IfOk result (λ making. making.clause.keys ≡ clause.now) }
-        ensures is_clause { IfOk result (λ making. IsClause making.clause.keys) }
-        ensures chain { IfOk result (λ making. making.chain.items ≡ []) }
+        ensures { OnOk result (self.new.clause ≡ clause.now) }
     {
-        let mut literals = IndexSet::new(alloc);
-        for lit in clause {
-            literals.insert(*lit)?;
+        self.clause.clear();
+        self.latest = self.count_new(trail, clause);
+        self.clause.start(clause)
+    }
+
+    /// Resolves the clause with another.
+    pub(crate) fn resolve(
+        &mut self,
+        trail: &Trail,
+        pivot: Lit,
+        other: &[Lit],
+    ) -> Result<(), NoMemory>
+        ensures { OnOk result (self.new.clause ≡ resolvent pivot self.old.clause other.now) }
+    {
+        // the pivot is counted, and its opposite is among the new ones
+        let both = self.latest.saturating_add(self.count_new(trail, other));
+        self.latest = both.saturating_sub(2);
+        self.clause.resolve(pivot, other)
+    }
+
+    /// About how many literals of the present level are new in another clause.
+    fn count_new(&self, trail: &Trail, other: &[Lit]) -> u64 {
+        let mut count = 0u64;
+        for lit in other {
+            if trail.seems_latest(lit.var) && !self.clause.contains(*lit) {
+                count = count.saturating_add(1);
+            }
         }
-        Ok(Making {
-            clause: literals,
-            chain: Vec::new(alloc),
-        })
+        count
     }
 
-    /// Resolves the clause with another of a number, and notes the link.
-    pub(crate) fn resolve(&mut self, pivot: Lit, number: u64, other: &[Lit]) -> Result<(), NoMemory>
-        requires clause { IsClause self.old.clause.keys }
-        requires other { IsClause other.now }
-        ensures resolved { OnOk result (self.new.clause.keys ≡ resolvent pivot self.old.clause.keys other.now) }
-        ensures clause { OnOk result (IsClause self.new.clause.keys) }
-        ensures chain { OnOk result (self.new.chain.items ≡ self.old.chain.items ++ record { pivot = pivot; clause = number } ∷ []) }
-    {
-        resolve(&mut self.clause, pivot, other)?;
-        let link = Link {
-            pivot,
-            clause: number,
-        };
-        self.chain.push(link)?;
-        Ok(())
-    }
-
-    /// Ends with what the clause asserts.
-    pub(crate) fn teach(
-        self,
+    /// The literals of the clause, where those other than the opposite of an entry's are all of lower levels or the
+    /// entry is a decision. `None` says to resolve with the entry's reason.
+    pub(crate) fn measure(
+        &self,
         alloc: Global,
-        asserted: Option<Assertion>,
-    ) -> Result<Lesson, NoMemory>
-        ensures clause { IfOk result (λ lesson. lesson.clause.items ≡ self.clause.keys) }
-        ensures chain { IfOk result (λ lesson. lesson.chain ≡ self.chain) }
-        ensures asserted { IfOk result (λ lesson. lesson.asserted ≡ asserted) }
+        trail: &Trail,
+        entry: Entry,
+    ) -> Result<Option<Measured>, NoMemory>
+        requires trail { IsTrail trail.now }
+        requires falsified { IsFalseClause trail.now.entries self.now.clause }
+        ensures stops { IfOk result (λ found. IfSome found (Stops trail.now self.now.clause entry)) }
+        ensures resolves { IfOk result (λ found. IfNone found (IsSome entry.reason)) }
     {
-        let clause = Vec::from_slice(alloc, self.clause.as_slice())?;
-        Ok(Lesson {
-            clause,
-            chain: self.chain,
-            asserted,
-        })
-    }
-}
-
-/// Replaces a clause by its resolvent with another.
-fn resolve(clause: &mut IndexSet<Lit>, pivot: Lit, other: &[Lit]) -> Result<(), NoMemory>
-    requires clause { IsClause clause.old.keys }
-    requires other { IsClause other.now }
-    ensures resolved { OnOk result (clause.new.keys ≡ resolvent pivot clause.old.keys other.now) }
-    ensures clause { OnOk result (IsClause clause.new.keys) }
-{
-    let opposite = pivot.opposite();
-    clause.shift_remove(&pivot);
-    for lit in other {
-        if *lit != opposite {
-            clause.insert(*lit)?;
+        if self.latest > 1 && entry.reason.is_some() {
+            return Ok(None);
         }
+        let clause = self.clause.literals(alloc)?;
+        let level = highest_other(trail, clause.as_slice(), entry.lit.opposite());
+        if level >= entry.level && entry.reason.is_some() {
+            return Ok(None);
+        }
+        Ok(Some(Measured { clause, level }))
     }
-    Ok(())
 }
 
 /// The highest level among the literals of a clause other than one.
-pub(crate) fn highest_other(trail: &Trail, clause: &[Lit], lit: Lit) -> u64
+fn highest_other(trail: &Trail, clause: &[Lit], lit: Lit) -> u64
     requires trail { IsTrail trail.now }
     requires falsified { IsFalseClause trail.now.entries clause.now }
     ensures others { IsFalseClause (up_to result trail.now.entries) (without clause.now lit) }

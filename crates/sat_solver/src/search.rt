@@ -7,7 +7,7 @@ ghost use Rattle.sat_solver.specs.Entries.{IsConflict, IsFalseClause, AllSettled
 ghost use Rattle.sat_solver.specs.Lessons.{Asserts};
 
 use crate::analysis::analyze;
-use crate::lesson::{Assertion, Lesson};
+use crate::lesson::{Assertion, Lesson, Making};
 use crate::store::Store;
 use crate::trail::Trail;
 use sat_clauses::{Clauses, Derivation, Lit, Step};
@@ -23,13 +23,15 @@ pub(crate) enum Turn {
     Derives,
 }
 
-/// The clauses, the trail, the order of decisions, and the steps that made the learnt clauses.
+/// The clauses, the trail, the order of decisions, the steps that made the learnt clauses, and the clause in the
+/// making, which is kept from one conflict to the next.
 #[derive(Drop)]
 pub(crate) struct Search {
     pub(crate) store: Store,
     pub(crate) trail: Trail,
     pub(crate) queue: DecisionQueue,
     pub(crate) steps: Vec<Step>,
+    making: Making,
 }
 
 impl Search {
@@ -50,6 +52,7 @@ impl Search {
             queue: DecisionQueue::new(alloc, vars)?,
             store,
             steps: Vec::new(alloc),
+            making: Making::new(alloc),
         })
     }
 
@@ -111,7 +114,7 @@ impl Search {
             clause,
             chain,
             asserted,
-        } = analyze(alloc, &self.trail, &self.store, conflict)?;
+        } = analyze(alloc, &self.trail, &self.store, conflict, &mut self.making)?;
         self.steps.push(Step {
             first: conflict,
             chain,

@@ -80,6 +80,12 @@ impl Trail {
         self.levels[(var - 1) as usize]
     }
 
+    /// Whether the level last noted for a variable is the present one. It is a hint, on which nothing rests.
+    pub(crate) fn seems_latest(&self, var: u64) -> bool {
+        let at = var.saturating_sub(1) as usize;
+        at < self.levels.len() && self.levels[at] == self.level
+    }
+
     /// Puts a literal at the end.
     fn push(&mut self, entry: Entry)
         requires within { (1 ≤ entry.lit.var) × (entry.lit.var ≤ self.old.vars) }
