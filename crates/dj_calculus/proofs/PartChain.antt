@@ -19,13 +19,13 @@ first_does p true x y o is rest e = let same : y ≡ x = cc in subst (λ z. p z 
 first_does p false x y o is rest e = rest e
 
 -- what is found does what is asked
-found_does : {X : Type 0} (p : X → Bool) (xs : List X) (x : X) → find p xs ≡ Some x → p x ≡ true
+pub found_does : {X : Type 0} (p : X → Bool) (xs : List X) (x : X) → find p xs ≡ Some x → p x ≡ true
 found_does p [] x e = absurd cc
 found_does p (y ∷ xs) x e = first_does p (p y) x y (find p xs) refl (found_does p xs x) e
 
 -- ---- parts by their names
 
-one_of_name : (parts : List Part) (p q : Part) → StandOnce (map (λ x. x.name) parts) → Contains parts p → Contains parts q → p.name.text ≡ q.name.text → p ≡ q
+pub one_of_name : (parts : List Part) (p q : Part) → StandOnce (map (λ x. x.name) parts) → Contains parts p → Contains parts q → p.name.text ≡ q.name.text → p ≡ q
 one_of_name [] p q once at_p at_q same = no_element p at_p
 one_of_name (z ∷ parts) p q once at_p at_q same =
     either (first_or_other z p parts at_p)
@@ -46,7 +46,7 @@ none_there (Some y) x e is = absurd cc
 
 module _ (parts : List Part) where
   -- reached in this number of steps
-  data ReachedIn : ℕ → Part → Type 0 where
+  pub data ReachedIn : ℕ → Part → Type 0 where
     at_first : {p : Part} → first_part parts ≡ Some p → ReachedIn 0 p
     after_that : {k : ℕ} {p q : Part} → ReachedIn k p → next_part parts p ≡ Some q → ReachedIn (suc k) q
 
@@ -54,11 +54,11 @@ module _ (parts : List Part) where
   counted p (begins q first) = (0, at_first first)
   counted p (goes_on r q reached next) = let before = counted r reached in (suc before.0, after_that before.1 next)
 
-  reached_within : (k : ℕ) (p : Part) → ReachedIn k p → Contains parts p
+  pub reached_within : (k : ℕ) (p : Part) → ReachedIn k p → Contains parts p
   reached_within k p (at_first first) = found_within (λ x. is_none x.after) parts p first
   reached_within k p (after_that {p = r} reached next) = found_within (comes_after r) parts p next
 
-  names_it : (p q : Part) → next_part parts p ≡ Some q → (a : Spot) × (q.after ≡ Some a) × (a.text ≡ p.name.text)
+  pub names_it : (p q : Part) → next_part parts p ≡ Some q → (a : Spot) × (q.after ≡ Some a) × (a.text ≡ p.name.text)
   names_it p q next = after_name q.after p.name.text (found_does (comes_after p) parts q next)
 
   lacks_after : (p : Part) (a : Spot) → first_part parts ≡ Some p → p.after ≡ Some a → ⊥
@@ -72,7 +72,7 @@ module _ (parts : List Part) where
         one_of_name parts p r once at_p at_r (sym a.2 ∙ ap (λ x. x.text) (same_some a.0 b.0 q.after a.1 b.1) ∙ b.2)
 
     -- no part is reached twice
-    one_number : (i j : ℕ) (p : Part) → ReachedIn i p → ReachedIn j p → i ≡ j
+    pub one_number : (i j : ℕ) (p : Part) → ReachedIn i p → ReachedIn j p → i ≡ j
     one_number i j p (at_first first) (at_first other) = refl
     one_number i j p (at_first first) (after_that {p = r} reached next) = let a = names_it r p next in absurd (lacks_after p a.0 first a.1)
     one_number i j p (after_that {p = r} reached next) (at_first first) = let a = names_it r p next in absurd (lacks_after p a.0 first a.1)
@@ -91,7 +91,7 @@ module _ (parts : List Part) where
         earlier_or_last : (i n : ℕ) → i < suc n → (i < n) ⊎ (i ≡ n)
         earlier_or_last i n low = grind arith
 
-    few_steps : (k : ℕ) (p : Part) → ReachedIn k p → k < length parts
+    pub few_steps : (k : ℕ) (p : Part) → ReachedIn k p → k < length parts
     few_steps k p reached = as_many (suc k) parts ReachedIn (reached_before k p reached) one_number
 
   -- ---- the chain
@@ -107,7 +107,7 @@ module _ (parts : List Part) where
       subst (λ o. slice_get (parts_from (suc n) parts o) 0 ≡ Some q) (sym later) refl
   next_in (suc n) (Some r) (suc k) p q e next low = next_in n (next_part parts r) k p q e next (omega arith)
 
-  at_number : (n k : ℕ) (p : Part) → ReachedIn k p → k < n → slice_get (parts_from n parts (first_part parts)) k ≡ Some p
+  pub at_number : (n k : ℕ) (p : Part) → ReachedIn k p → k < n → slice_get (parts_from n parts (first_part parts)) k ≡ Some p
   at_number zero k p reached low = absurd (omega arith)
   at_number (suc n) k p (at_first first) low = subst (λ o. slice_get (parts_from (suc n) parts o) 0 ≡ Some p) (sym first) refl
   at_number (suc n) k p (after_that {k = j} {p = r} reached next) low =
