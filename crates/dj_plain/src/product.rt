@@ -3,7 +3,7 @@ ghost use Rattle.std.specs.Prelude.{◌≡◌, ◌+◌, ◌*◌, ◌^◌, ◌<�
 ghost use Rattle.std.specs.List.{flat_map};
 ghost use Rattle.dj_tree.specs.Plain.{plain_source};
 ghost use Rattle.dj_tree.specs.WellFormed.{IsOperation, IsWellFormed};
-ghost use Rattle.ifj_table.specs.CanonicalText.{canonical_text};
+ghost use Rattle.thin_table.specs.CanonicalText.{canonical_text};
 ghost use Rattle.dj_line.specs.Lines.{plain_line};
 ghost use Rattle.dj_line.specs.Orders.{is_active as is_active_in};
 ghost use Rattle.dj_plain.specs.Plain.{is_plain};
@@ -14,7 +14,7 @@ use crate::adding::add_operations;
 use dj_formula::eval;
 use dj_line::{Config, Line};
 use dj_tree::{ClassOp, Source};
-use ifj_table::Table;
+use thin_table::Table;
 use std::alloc::{AllocError as NoMemory, Global};
 
 /// The canonical Java text of a plain line's product: of exactly the classes that the active deltas of

@@ -1,4 +1,6 @@
-pub use Rattle.dj_names.specs.Texts
-pub mod ClassTable
-pub mod CanonicalText
+pub mod Sorted
+pub mod Entries
 pub mod Held
+pub mod Tables
+pub mod Changes
+pub mod Lookups

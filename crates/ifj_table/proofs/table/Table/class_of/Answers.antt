@@ -1,0 +1,26 @@
+use Rattle.std.proofs.Common.{◌≡◌, [], slice_get, Some, sym, ap, ◌∙◌, subst, arith}
+use Rattle.std.specs.Prelude.{unwrap_or}
+use Rattle.std.specs.FinMap.{get}
+use Rattle.ifj_table.specs.Entries.{classes_of, plain_class}
+use Rattle.ifj_table.proofs.TableLemmas.{class_key, class_read, no_class, place_within, element_is}
+use Rattle.ifj_table.proofs.table.Table.class_of.Goals as goal
+
+pub index-requires : goal.index-requires
+index-requires c =
+    let t = c.args.self.now in
+    omega (arith, place_within (class_key t.names) t.classes.items c.in-Ok.at c.text.result.now c.in-Ok.ensures, t.classes.ok.0)
+
+pub returns-in-Ok-clause-found : goal.returns-in-Ok-clause-found
+returns-in-Ok-clause-found c =
+    let t = c.args.self.now in
+    rw c.text.ensures (class_read t.names t.exprs t.classes.items t.held c.in-Ok.at c.text.result.now c.index.result.now c.in-Ok.ensures c.index.ensures)
+
+pub returns-in-Ok-clause-known : goal.returns-in-Ok-clause-known
+returns-in-Ok-clause-known c =
+    let t = c.args.self.now in
+    (c.in-Ok.at, element_is t.classes.items c.in-Ok.at c.index.result.now (place_within (class_key t.names) t.classes.items c.in-Ok.at c.text.result.now c.in-Ok.ensures) c.index.ensures)
+
+pub returns-in-Err-clause-found : goal.returns-in-Err-clause-found
+returns-in-Err-clause-found c =
+    let t = c.args.self.now in
+    rw c.text.ensures (no_class t.names t.exprs t.classes.items t.held c.in-Err.field-0 c.text.result.now c.in-Err.ensures)
