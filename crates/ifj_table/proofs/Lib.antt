@@ -5,3 +5,4 @@ pub mod EntryMaps
 pub mod TableLemmas
 pub mod TableChanges
 pub mod MemberLemmas
+pub mod Copying

@@ -1,6 +1,7 @@
 //! Class tables: classes with a superclass, fields and methods, each with the bodies that it keeps.
 #![tactic(auto)]
 
+mod copy;
 mod entry;
 mod fields;
 mod keyed;
