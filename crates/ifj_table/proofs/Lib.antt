@@ -6,3 +6,4 @@ pub mod TableLemmas
 pub mod TableChanges
 pub mod MemberLemmas
 pub mod Copying
+pub mod OwnNames

@@ -1,8 +1,9 @@
 -- Changes of one class of a table, and of its members.
-use Rattle.std.specs.Prelude.{ℕ, [], ◌∷◌, ◌++◌}
+use Rattle.std.specs.Prelude.{ℕ, ◌+◌, ◌*◌, [], ◌∷◌, ◌++◌, length}
 use Rattle.std.specs.Option.{option_map}
 use Rattle.std.specs.FinMap.{get, insert, remove, empty}
 use Rattle.dj_names.specs.Texts.{Text}
+use Rattle.arena_walk.specs.Tree.{size}
 use Rattle.dj_tree.specs.Trees.{Spot, Method}
 use Rattle.dj_calculus.specs.Maps.{TextMap, with_at}
 use Rattle.dj_calculus.specs.Tables.{FieldEntry, MethodEntry, ClassEntry}
@@ -37,3 +38,7 @@ pushed_body m old = record { at = m.name.at; signature = signature_of m; bodies 
 
 abbrev pub with_body : Method → ClassEntry → ClassEntry
 with_body m c = record c { methods = changed_at c.methods m.name.text (pushed_body m) }
+
+-- how many names a method says: its own, its result type, its parameters with their types, and one at most for each node
+abbrev pub names_said : Method → ℕ
+names_said m = 2 + 2 * length m.parameters + size m.body

@@ -5,6 +5,7 @@ mod copy;
 mod entry;
 mod fields;
 mod keyed;
+mod owned;
 mod table;
 
 pub use entry::{Body, ClassEntry, FieldEntry, MethodEntry};
