@@ -17,7 +17,8 @@ use Rattle.ifj_table.specs.Held.{IsFieldEntry, IsMethodEntry, IsClassEntry, AreC
 use Rattle.ifj_table.specs.declared.entry.FieldEntry.{FieldEntry}
 use Rattle.ifj_table.specs.declared.entry.MethodEntry.{MethodEntry}
 use Rattle.ifj_table.specs.declared.entry.ClassEntry.{ClassEntry}
-use Rattle.ifj_table.proofs.EntryMaps.{inserted, removed, got_at, none_there, entry_there, keys_inserted, keys_removed, all_inserted, all_removed}
+use Rattle.std.proofs.lemmas.List.Elements.{All-set}
+use Rattle.ifj_table.proofs.EntryMaps.{element_at, inserted, set_at, keys_set, removed, got_at, none_there, entry_there, keys_inserted, keys_removed, all_inserted, all_removed}
 use Rattle.ifj_table.proofs.TableLemmas.{class_key, class_read, place_within, element_is, all_at}
 
 abbrev pub field_key : List Text → FieldEntry → Text
@@ -136,3 +137,16 @@ module _ (names : List Text) (exprs : List ExprNode) (c : ClassEntry) (is : IsCl
   map_fewer_methods at m here =
       let it = got_at (method_key names) (plain_method names exprs) c.methods.items at m is.rising_methods here in
       removed (method_key names) (plain_method names exprs) c.methods.items at it.0 is.rising_methods it.1 ∙ ap (finite.remove (methods_of names exprs c.methods.items)) it.2
+
+  -- one that takes the place of the one of its name
+  pub set_methods : (at : ℕ) (m : MethodEntry) → IsMethodEntry names exprs m → slice_get (map (method_key names) c.methods.items) at ≡ Some (method_key names m)
+      → All (IsMethodEntry names exprs) (set c.methods.items at m) × AreRising (map (method_key names) (set c.methods.items at m))
+  set_methods at m known here =
+      let it = element_at (method_key names) c.methods.items at (method_key names m) here in
+      (All-set (IsMethodEntry names exprs) c.methods.items at m known is.methods, keys_set (method_key names) c.methods.items at it.0 m it.1 (sym it.2) is.rising_methods)
+
+  pub map_set_methods : (at : ℕ) (m : MethodEntry) → slice_get (map (method_key names) c.methods.items) at ≡ Some (method_key names m)
+      → methods_of names exprs (set c.methods.items at m) ≡ finite.insert (methods_of names exprs c.methods.items) (method_key names m) (plain_method names exprs m)
+  map_set_methods at m here =
+      let it = element_at (method_key names) c.methods.items at (method_key names m) here in
+      set_at (method_key names) (plain_method names exprs) c.methods.items at it.0 m is.rising_methods it.1 (sym it.2)

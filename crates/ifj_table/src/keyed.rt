@@ -1,5 +1,5 @@
 //! Entries in the order of the texts of their names, and how one is found.
-ghost use Rattle.std.specs.Prelude.{◌≡◌, ℕ, map, slice_get, Some, All, MatchResult, OnOk, OnErr};
+ghost use Rattle.std.specs.Prelude.{◌≡◌, ℕ, map, slice_get, slice_set, Some, All, MatchResult, OnOk, OnErr};
 ghost use Rattle.std.specs.List.{insert, remove};
 ghost use Rattle.dj_tree.specs.WellFormed.{IsKnown};
 ghost use Rattle.ifj_table.specs.Sorted.{AreRising, IsGap};
@@ -95,4 +95,18 @@ pub fn remove_entry<E: Keyed + Drop>(names: &Names, entries: &mut Vec<E>, text: 
 {
     let at = place(names, entries.as_slice(), text);
     entries.remove(at);
+}
+
+/// Puts an entry in the place of the one of its name.
+pub fn replace_entry<E: Keyed + Drop>(names: &Names, entries: &mut Vec<E>, entry: E)
+    requires known { All (λ e. IsKnown names.now (E.key_of e)) entries.old.items }
+    requires rising { AreRising (map (λ e. text_at names.now (E.key_of e)) entries.old.items) }
+    requires own { IsKnown names.now (E.key_of entry) }
+    requires there { (at : ℕ) × (slice_get (map (λ e. text_at names.now (E.key_of e)) entries.old.items) at ≡ Some (text_at names.now (E.key_of entry))) }
+    ensures { (at : ℕ)
+        × (slice_get (map (λ e. text_at names.now (E.key_of e)) entries.old.items) at ≡ Some (text_at names.now (E.key_of entry)))
+        × (entries.new.items ≡ slice_set entries.old.items at entry) }
+{
+    let at = place(names, entries.as_slice(), names.text(entry.key().name));
+    entries[at] = entry;
 }

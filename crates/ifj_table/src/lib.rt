@@ -5,6 +5,7 @@ mod copy;
 mod entry;
 mod fields;
 mod keyed;
+mod methods;
 mod owned;
 mod table;
 
