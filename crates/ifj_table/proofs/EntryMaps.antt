@@ -29,7 +29,7 @@ map_remove f [] (suc n) = refl
 map_remove f (y ∷ xs) zero = refl
 map_remove f (y ∷ xs) (suc n) = ap (λ ys. f y ∷ ys) (map_remove f xs n)
 
-set_same_key : {X Y : Type 0} (f : X → Y) (xs : List X) (at : ℕ) (old new : X) → slice_get xs at ≡ Some old → f new ≡ f old → map f (set xs at new) ≡ map f xs
+pub set_same_key : {X Y : Type 0} (f : X → Y) (xs : List X) (at : ℕ) (old new : X) → slice_get xs at ≡ Some old → f new ≡ f old → map f (set xs at new) ≡ map f xs
 set_same_key f [] zero old new here same = refl
 set_same_key f [] (suc n) old new here same = refl
 set_same_key f (y ∷ xs) zero old new here same = let is : y ≡ old = cc in ap (λ z. z ∷ map f xs) (same ∙ sym (ap f is))

@@ -1,10 +1,10 @@
 -- A class of a table with its members changed.
-use Rattle.std.proofs.Common.{◌≡◌, ◌≢◌, ℕ, ◌<◌, List, [], ◌∷◌, map, set, Option, Some, None, slice_get, get_or, Ok, Err, refl, sym, ap, ap₂, ◌∙◌, subst, arith}
-use Rattle.std.specs.Prelude.{All, IsSome, IfSome, OnOk, OnErr}
+use Rattle.std.proofs.Common.{◌≡◌, ◌≢◌, ℕ, suc, ◌<◌, Bool, true, false, ◌&&◌, List, [], ◌∷◌, ◌++◌, length-append, map, set, Option, Some, None, slice_get, get_or, Ok, Err, refl, sym, ap, ap₂, ◌∙◌, subst, arith}
+use Rattle.std.specs.Prelude.{All, IsSome, IfSome, OnOk, OnErr, IsTrue, length}
 use Rattle.std.specs.List.{insert, remove}
 use Rattle.std.specs.Str.{bytes_eq}
 use Rattle.std.specs.FinMap as finite
-use Rattle.std.specs.FinMap.{get}
+use Rattle.std.specs.FinMap.{get, from_entries}
 use Rattle.std.specs.declared.result.Result.{Result}
 use Rattle.dj_names.specs.Texts.{Text}
 use Rattle.dj_tree.specs.WellFormed.{IsKnown}
@@ -12,13 +12,23 @@ use Rattle.dj_tree.specs.declared.declarations.Spot.{Spot}
 use Rattle.dj_tree.specs.declared.expression.ExprNode.{ExprNode}
 use Rattle.dj_calculus.specs.Subclasses.{object}
 use Rattle.ifj_table.specs.Sorted.{AreRising, IsGap}
-use Rattle.ifj_table.specs.Entries.{text_at, plain_field, plain_method, fields_of, methods_of, plain_class, classes_of}
-use Rattle.ifj_table.specs.Held.{IsFieldEntry, IsMethodEntry, IsClassEntry, AreClasses}
+use Rattle.ifj_table.specs.Entries.{text_at, plain_field, plain_body, plain_method, fields_of, methods_of, plain_class, classes_of}
+use Rattle.dj_calculus.specs.Entries.{signature_of, body_of, same_types, same_signature}
+use Rattle.dj_calculus.specs.Tables as calculus
+use Rattle.ifj_table.specs.Redeclared.{IsRedeclaredAmong, AreSameMethods}
+use Rattle.ifj_table.specs.Changes.{pushed_body}
+use Rattle.ifj_table.specs.declared.entry.Body.{Body}
+use Rattle.dj_tree.specs.Trees as plain
+use Rattle.dj_tree.specs.Trees.{Method}
+use Rattle.dj_tree.specs.Plain.{plain_spot}
+use Rattle.ifj_table.specs.Held.{IsBody, IsFieldEntry, IsMethodEntry, IsClassEntry, AreClasses}
 use Rattle.ifj_table.specs.declared.entry.FieldEntry.{FieldEntry}
 use Rattle.ifj_table.specs.declared.entry.MethodEntry.{MethodEntry}
 use Rattle.ifj_table.specs.declared.entry.ClassEntry.{ClassEntry}
-use Rattle.std.proofs.lemmas.List.Elements.{All-set}
-use Rattle.ifj_table.proofs.EntryMaps.{element_at, inserted, set_at, keys_set, removed, got_at, none_there, entry_there, keys_inserted, keys_removed, all_inserted, all_removed}
+use Rattle.std.proofs.lemmas.List.{length-map, map-append}
+use Rattle.std.proofs.lemmas.List.Elements.{All-set, All-push}
+use Rattle.dj_calculus.proofs.Members.{same_some}
+use Rattle.ifj_table.proofs.EntryMaps.{element_at, set_same_key, got, inserted, set_at, keys_set, removed, got_at, none_there, entry_there, keys_inserted, keys_removed, all_inserted, all_removed}
 use Rattle.ifj_table.proofs.TableLemmas.{class_key, class_read, place_within, element_is, all_at}
 
 abbrev pub field_key : List Text → FieldEntry → Text
@@ -33,6 +43,11 @@ pub if_some : {X : Type 0} (P : X → Type 0) (o : Option X) (x : X) → o ≡ S
 if_some P None x e h = absurd cc
 if_some P (Some y) x e h = let same : y ≡ x = cc in subst P same h
 
+-- what an option that has something has
+pub some_value : {X : Type 0} (o : Option X) → IsSome o → (x : X) × (o ≡ Some x)
+some_value None e = absurd cc
+some_value (Some x) e = (x, refl)
+
 pub either_way : {A B : Type 0} {P Q R : Type 0} (r : Result A B) → OnOk r P → OnErr r Q → (P → R) → (Q → R) → R
 either_way (Ok a) p q f g = f p
 either_way (Err b) p q f g = g q
@@ -44,6 +59,10 @@ on_ok (Err b) p f = p
 pub on_err : {A B : Type 0} {P Q : Type 0} (r : Result A B) → OnErr r P → (P → Q) → OnErr r Q
 on_err (Ok a) p f = p
 on_err (Err b) p f = f p
+
+pub err_any : {A B : Type 0} {P : Type 0} (r : Result A B) → P → OnErr r P
+err_any (Ok a) p = tt
+err_any (Err b) p = p
 
 -- ---- the class
 
@@ -86,6 +105,45 @@ module _ (names : List Text) (exprs : List ExprNode) (c new : ClassEntry) (is : 
     methods = subst (All (IsMethodEntry names exprs)) (sym ms) all;
     rising_methods = subst (λ es. AreRising (map (method_key names) es)) (sym ms) rising;
   }
+
+-- ---- methods of equal parts
+
+pub method_is : (names : List Text) (exprs : List ExprNode) (old new : MethodEntry) → IsMethodEntry names exprs old → new.result ≡ old.result → new.spot ≡ old.spot → new.parameters ≡ old.parameters → new.bodies.items ≡ old.bodies.items
+    → IsMethodEntry names exprs new
+method_is names exprs old new is result spot types bodies = record {
+  spot = subst (IsKnown names) (sym spot) is.spot;
+  result = subst (IsKnown names) (sym result) is.result;
+  parameters = subst (All (IsKnown names)) (sym types) is.parameters;
+  some = omega (arith, is.some, ap length bodies);
+  bodies = subst (λ ps. All (IsBody names exprs (length ps)) new.bodies.items) (sym types) (subst (All (IsBody names exprs (length old.parameters))) (sym bodies) is.bodies);
+}
+
+plain_is : (names : List Text) (exprs : List ExprNode) (new : MethodEntry) (result spot : Spot) (types : List Spot) (bodies : List Body) → new.result ≡ result → new.spot ≡ spot → new.parameters ≡ types → new.bodies.items ≡ bodies
+    → plain_method names exprs new
+    ≡ record { at = spot.at; signature = record { parameters = map (plain_spot names) types; result = plain_spot names result }; bodies = map (plain_body names exprs) bodies }
+plain_is names exprs new result spot types bodies result_is spot_is types_are bodies_are =
+    ap₂ (λ (at : ℕ) signature. record { at = at; signature = signature; bodies = map (plain_body names exprs) new.bodies.items }) (ap (λ (x : Spot). x.at) spot_is)
+    (ap₂ (λ ps r. record { parameters = map (plain_spot names) ps; result = plain_spot names r }) types_are result_is)
+    ∙ ap (λ bs. record { at = spot.at; signature = record { parameters = map (plain_spot names) types; result = plain_spot names result }; bodies = map (plain_body names exprs) bs }) bodies_are
+
+plain_same : (names : List Text) (exprs : List ExprNode) (old new : MethodEntry) → new.result ≡ old.result → new.spot ≡ old.spot → new.parameters ≡ old.parameters → new.bodies.items ≡ old.bodies.items
+    → plain_method names exprs new ≡ plain_method names exprs old
+plain_same names exprs old new result spot types bodies = plain_is names exprs new old.result old.spot old.parameters old.bodies.items result spot types bodies
+
+first_true : (a b : Bool) → (a && b) ≡ true → a ≡ true
+first_true true b e = refl
+first_true false b e = absurd cc
+
+second_true : (a b : Bool) → (a && b) ≡ true → b ≡ true
+second_true true b e = e
+second_true false b e = absurd cc
+
+-- lists of the same types are equally long
+same_length : (xs ys : List plain.Spot) → same_types xs ys ≡ true → length xs ≡ length ys
+same_length [] [] e = refl
+same_length [] (y ∷ ys) e = absurd cc
+same_length (x ∷ xs) [] e = absurd cc
+same_length (x ∷ xs) (y ∷ ys) e = ap suc (same_length xs ys (second_true (bytes_eq x.text y.text) (same_types xs ys) e))
 
 -- ---- fields
 
@@ -150,3 +208,62 @@ module _ (names : List Text) (exprs : List ExprNode) (c : ClassEntry) (is : IsCl
   map_set_methods at m here =
       let it = element_at (method_key names) c.methods.items at (method_key names m) here in
       set_at (method_key names) (plain_method names exprs) c.methods.items at it.0 m is.rising_methods it.1 (sym it.2)
+
+  -- ---- a method declared again
+
+  -- nothing has changed
+  pub same_methods : (after : List MethodEntry) → AreSameMethods c.methods.items after
+      → (All (IsMethodEntry names exprs) after × AreRising (map (method_key names) after)) × (methods_of names exprs after ≡ methods_of names exprs c.methods.items)
+  same_methods after same =
+      let key : method_key names same.new ≡ method_key names same.old = ap (text_at names) same.spot_is in
+      let was = all_at (IsMethodEntry names exprs) c.methods.items same.at same.old is.methods same.stood in
+      let now = method_is names exprs same.old same.new was same.result_is same.spot_is same.types_are same.bodies_are in
+      let reads = plain_same names exprs same.old same.new same.result_is same.spot_is same.types_are same.bodies_are in
+      let pair : MethodEntry → Text × calculus.MethodEntry = λ m. (method_key names m, plain_method names exprs m) in
+      (
+        (
+          subst (All (IsMethodEntry names exprs)) (sym same.stands) (All-set (IsMethodEntry names exprs) c.methods.items same.at same.new now is.methods),
+          subst (λ ms. AreRising (map (method_key names) ms)) (sym same.stands) (keys_set (method_key names) c.methods.items same.at same.old same.new same.stood key is.rising_methods),
+        ),
+        ap (methods_of names exprs) same.stands ∙ ap from_entries (set_same_key pair c.methods.items same.at same.old same.new same.stood (ap₂ (λ k x. (k, x)) key reads)),
+      )
+
+  -- one body more
+  pub redeclared : (after : List MethodEntry) (name : Text) (result spot : Spot) (types : List Spot) (body : Body) (m : Method) (entry : calculus.MethodEntry)
+      → IsRedeclaredAmong c.methods.items name names result spot types body after → IsKnown names result → IsKnown names spot → All (IsKnown names) types → IsBody names exprs (length types) body
+      → text_at names spot ≡ name → get (methods_of names exprs c.methods.items) name ≡ Some entry → IsTrue (same_signature entry.signature (signature_of m))
+      → plain_spot names spot ≡ m.name → plain_spot names result ≡ m.kind → map (plain_spot names) types ≡ (signature_of m).parameters → plain_body names exprs body ≡ body_of m
+      → (All (IsMethodEntry names exprs) after × AreRising (map (method_key names) after))
+      × (methods_of names exprs after ≡ finite.insert (methods_of names exprs c.methods.items) name (pushed_body m entry))
+  redeclared after name result spot types body m entry again own_result own_spot own_types own_body key there same spot_is result_is types_are body_is =
+      let old = again.old in
+      let new = again.new in
+      let was = all_at (IsMethodEntry names exprs) c.methods.items again.at old is.methods again.stood in
+      let kept = got (method_key names) (plain_method names exprs) c.methods.items again.at old is.rising_methods again.stood in
+      let entry_is : plain_method names exprs old ≡ entry = same_some (plain_method names exprs old) entry (get (methods_of names exprs c.methods.items) name) (subst (λ k. get (methods_of names exprs c.methods.items) k ≡ Some (plain_method names exprs old)) again.named kept) there in
+      let new_key : method_key names new ≡ name = ap (text_at names) again.spot_is ∙ key in
+      let count : length types ≡ length old.parameters =
+      omega (arith, same_length entry.signature.parameters (signature_of m).parameters (first_true (same_types entry.signature.parameters (signature_of m).parameters) (bytes_eq entry.signature.result.text (signature_of m).result.text) same), ap (λ (e : calculus.MethodEntry). length e.signature.parameters) entry_is, length-map old.parameters (plain_spot names), ap length types_are, length-map types (plain_spot names)) in
+      let now : IsMethodEntry names exprs new = record {
+        spot = subst (IsKnown names) (sym again.spot_is) own_spot;
+        result = subst (IsKnown names) (sym again.result_is) own_result;
+        parameters = subst (All (IsKnown names)) (sym again.types_are) own_types;
+        some = omega (arith, ap length again.bodies_are, length-append old.bodies.items (body ∷ []));
+        bodies = subst (λ ps. All (IsBody names exprs (length ps)) new.bodies.items) (sym again.types_are)
+            (subst (All (IsBody names exprs (length types))) (sym again.bodies_are)
+            (All-push (IsBody names exprs (length types)) old.bodies.items body (subst (λ n. All (IsBody names exprs n) old.bodies.items) (sym count) was.bodies) own_body));
+      } in
+      let reads : plain_method names exprs new ≡ pushed_body m entry =
+      plain_is names exprs new result spot types (old.bodies.items ++ body ∷ []) again.result_is again.spot_is again.types_are again.bodies_are
+      ∙ ap₂ (λ at signature. record { at = at; signature = signature; bodies = map (plain_body names exprs) (old.bodies.items ++ body ∷ []) }) (ap (λ (x : plain.Spot). x.at) spot_is)
+      (ap₂ (λ ps r. record { parameters = ps; result = r }) types_are result_is)
+      ∙ ap (λ bs. record { at = m.name.at; signature = signature_of m; bodies = bs })
+      (map-append (plain_body names exprs) old.bodies.items (body ∷ []) ∙ ap₂ (λ xs x. xs ++ x ∷ []) (ap (λ (e : calculus.MethodEntry). e.bodies) entry_is) body_is) in
+      (
+        (
+          subst (All (IsMethodEntry names exprs)) (sym again.stands) (All-set (IsMethodEntry names exprs) c.methods.items again.at new now is.methods),
+          subst (λ ms. AreRising (map (method_key names) ms)) (sym again.stands) (keys_set (method_key names) c.methods.items again.at old new again.stood (new_key ∙ sym again.named) is.rising_methods),
+        ),
+        ap (methods_of names exprs) again.stands ∙ set_at (method_key names) (plain_method names exprs) c.methods.items again.at old new is.rising_methods again.stood (new_key ∙ sym again.named)
+        ∙ ap₂ (λ k x. finite.insert (methods_of names exprs c.methods.items) k x) new_key reads,
+      )
