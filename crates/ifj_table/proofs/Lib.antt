@@ -7,3 +7,6 @@ pub mod TableChanges
 pub mod MemberLemmas
 pub mod Copying
 pub mod OwnNames
+pub mod Climbing
+pub mod Superclasses
+pub mod Inherited

@@ -5,9 +5,11 @@ mod copy;
 mod entry;
 mod fields;
 mod keyed;
+mod lookups;
 mod methods;
 mod owned;
 mod table;
 
 pub use entry::{Body, ClassEntry, FieldEntry, MethodEntry};
+pub use lookups::Found;
 pub use table::Table;

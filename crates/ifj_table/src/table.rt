@@ -32,6 +32,7 @@ impl Table {
     ghost use Rattle.ifj_table.specs.Held.{AreClasses};
     ghost use Rattle.ifj_table.specs.Tables.{plain_table, table_names, table_nodes, table_classes, name_text, class_keys};
     ghost use Rattle.ifj_table.specs.Sorted.{IsGap};
+    ghost use Rattle.ifj_table.specs.Lookups.{IsClassOf};
     ghost use Rattle.ifj_table.specs.Changes.{changed_at, bare_class, with_parent};
 
     /// A table without classes.
@@ -75,7 +76,7 @@ impl Table {
         ensures found { MatchOption result (map.get (plain_table self.now) (name_text self.now class.0) ≡ None)
             (λ entry. map.get (plain_table self.now) (name_text self.now class.0)
                 ≡ Some (plain_class (table_names self.now) (table_nodes self.now) entry.now)) }
-        ensures known { IfSome result (λ entry. (number : ℕ) × (slice_get (table_classes self.now) number ≡ Some entry.now)) }
+        ensures class { IfSome result (λ entry. IsClassOf self.now class.0 entry.now) }
     {
         match self.find_class(self.names.text(class)) {
             Ok(at) => Some(&self.classes[at]),

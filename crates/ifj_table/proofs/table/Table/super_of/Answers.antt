@@ -12,5 +12,5 @@ returns-clause-found c =
 pub returns-clause-known : goal.returns-clause-known
 returns-clause-known c =
     let t = c.args.self.now in
-    let there = c.in_ok-entry.ensures.known in
-    (all_at (IsClassEntry t.names t.exprs) t.classes.items there.0 c.in_ok-entry.entry.now t.held.each there.1).parent
+    let there = c.in_ok-entry.ensures.class in
+    (all_at (IsClassEntry t.names t.exprs) t.classes.items there.number c.in_ok-entry.entry.now t.held.each there.stands).parent
