@@ -1,11 +1,15 @@
 -- Elements of lists, and lists in which no name stands twice.
-use Rattle.std.proofs.Common.{◌≡◌, ◌⊎◌, inl, inr, ℕ, zero, suc, ◌<◌, Bool, true, false, cond, List, [], ◌∷◌, ◌++◌, map, Option, Some, None, length, slice_get, slice_index_or, Contains, refl, sym, ap, ◌∙◌, subst, arith}
+use Rattle.std.proofs.Common.{◌≡◌, ◌⊎◌, inl, inr, ℕ, zero, suc, ◌<◌, Bool, true, false, ◌||◌, cond, List, [], ◌∷◌, ◌++◌, map, Option, Some, None, length, slice_get, slice_index_or, Contains, refl, sym, ap, ◌∙◌, subst, arith}
 use Rattle.std.specs.Option.{option_map, option_and_then}
 use Rattle.std.specs.List.{filter_map, cons_option, flat_map, find, insert}
 use Rattle.std.specs.List.Sorted.{IsPermutation}
+use Rattle.std.specs.Str.{bytes_eq}
+use Rattle.std.proofs.lemmas.Slice.Eq.{bytes_eq-Decides}
 use Rattle.std.proofs.lemmas.List.Elements.{Contains-append_left, Contains-append_right}
 use Rattle.std.proofs.lemmas.List.Sorted.{IsPermutation-insert, IsPermutation-sym}
 use Rattle.dj_tree.specs.Trees.{Spot}
+use Rattle.dj_names.specs.Texts.{Text}
+use Rattle.dj_calculus.specs.Configurations.{is_named}
 use Rattle.dj_calculus.specs.FaultPlaces.{Repeats}
 
 pub same_some : {X : Type 0} (a b : X) (o : Option X) → o ≡ Some a → o ≡ Some b → a ≡ b
@@ -120,6 +124,26 @@ at_place (y ∷ xs) (suc k) x low is = at_place xs k x (omega arith) is
 pub first_apart : (x y : Spot) (names : List Spot) → StandOnce (x ∷ names) → Contains names y → ¬ (x.text ≡ y.text)
 first_apart x y names once (k, low, is) same =
     once y.at (record { before = 0; number = suc k; earlier = omega arith; x = x; y = y; at_before = refl; at_number = at_place names k y low is; same = same; here = refl })
+
+or_true : (a : Bool) → (a || true) ≡ true
+or_true true = refl
+or_true false = refl
+
+-- a name of a list is named, and what is named is one
+pub named_within : (names : List Spot) (x : Spot) → Contains names x → is_named names x.text ≡ true
+named_within [] x there = no_element x there
+named_within (y ∷ names) x there =
+    either (first_or_other y x names there) (λ same. ap (λ b. b || is_named names x.text) ((bytes_eq-Decides y.text x.text).1 (ap (λ z. z.text) same)))
+    (λ later. ap (λ b. bytes_eq y.text x.text || b) (named_within names x later) ∙ or_true (bytes_eq y.text x.text))
+
+named_first : (y : Spot) (names : List Spot) (text : Text) (b o : Bool) → bytes_eq y.text text ≡ b → (o ≡ true → (x : Spot) × Contains names x × (x.text ≡ text)) → (b || o) ≡ true
+    → (x : Spot) × Contains (y ∷ names) x × (x.text ≡ text)
+named_first y names text true o is later e = (y, (0, omega arith, refl), (bytes_eq-Decides y.text text).0 is)
+named_first y names text false o is later e = let found = later e in (found.0, among_others y found.0 names found.1, found.2)
+
+pub named_from : (names : List Spot) (text : Text) → is_named names text ≡ true → (x : Spot) × Contains names x × (x.text ≡ text)
+named_from [] text e = absurd cc
+named_from (y ∷ names) text e = named_first y names text _ _ refl (named_from names text) e
 
 -- ---- each element
 

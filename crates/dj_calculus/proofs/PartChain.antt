@@ -92,7 +92,7 @@ module _ (parts : List Part) where
         earlier_or_last : (i n : ℕ) → i < suc n → (i < n) ⊎ (i ≡ n)
         earlier_or_last i n low = grind arith
 
-    few_steps : (k : ℕ) (p : Part) → ReachedIn k p → k < length parts
+    pub few_steps : (k : ℕ) (p : Part) → ReachedIn k p → k < length parts
     few_steps k p reached = as_many (suc k) parts ReachedIn (reached_before k p reached) one_number
 
   -- ---- the chain

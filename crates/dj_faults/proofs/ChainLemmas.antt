@@ -9,7 +9,7 @@ use Rattle.std.proofs.lemmas.Option.{slice_get-map, slice_get-get_or, slice_get_
 use Rattle.std.proofs.lemmas.List.Elements.{All-contains, All-push, filter_map-append}
 use Rattle.std.proofs.lemmas.Bool.{cases_lt}
 use Rattle.dj_calculus.proofs.Counting.{got_within}
-use Rattle.dj_calculus.proofs.Members.{same_some, mapped, either, no_element, first_or_other, among_others, filtered_from, mapped_within, mapped_from}
+use Rattle.dj_calculus.proofs.Members.{same_some, mapped, either, no_element, first_or_other, among_others, filtered_from, mapped_within, mapped_from, named_within, named_from}
 use Rattle.dj_calculus.proofs.PartChain.{chain_is_reached}
 use Rattle.dj_names.specs.Texts.{Text}
 use Rattle.dj_tree.specs.Trees as plain
@@ -101,26 +101,6 @@ no_more (suc k) parts = refl
 
 differ : true ≡ false → ⊥
 differ e = absurd cc
-
-or_true : (a : Bool) → (a || true) ≡ true
-or_true true = refl
-or_true false = refl
-
--- a name of a list is named, and what is named is one
-named_within : (names : List plain.Spot) (x : plain.Spot) → Contains names x → is_named names x.text ≡ true
-named_within [] x there = no_element x there
-named_within (y ∷ names) x there =
-    either (first_or_other y x names there) (λ same. ap (λ b. b || is_named names x.text) ((bytes_eq-Decides y.text x.text).1 (ap (λ z. z.text) same)))
-    (λ later. ap (λ b. bytes_eq y.text x.text || b) (named_within names x later) ∙ or_true (bytes_eq y.text x.text))
-
-named_first : (y : plain.Spot) (names : List plain.Spot) (text : Text) (b o : Bool) → bytes_eq y.text text ≡ b → (o ≡ true → (x : plain.Spot) × Contains names x × (x.text ≡ text)) → (b || o) ≡ true
-    → (x : plain.Spot) × Contains (y ∷ names) x × (x.text ≡ text)
-named_first y names text true o is later e = (y, (0, omega arith, refl), (bytes_eq-Decides y.text text).0 is)
-named_first y names text false o is later e = let found = later e in (found.0, among_others y found.0 names found.1, found.2)
-
-named_from : (names : List plain.Spot) (text : Text) → is_named names text ≡ true → (x : plain.Spot) × Contains names x × (x.text ≡ text)
-named_from [] text e = absurd cc
-named_from (y ∷ names) text e = named_first y names text _ _ refl (named_from names text) e
 
 -- the name of one more part by its number
 pub names_next : (parts : List PartDecl) (numbers : List ℕ) (i k : ℕ) (x : PartDecl) → slice_get numbers i ≡ Some k → slice_get parts k ≡ Some x

@@ -10,7 +10,8 @@ ghost use Rattle.dj_calculus.specs.Accepted.{IsAccepted};
 ghost use Rattle.dj_calculus.specs.Configurations.{is_named};
 ghost use Rattle.dj_calculus.specs.Expressions.{HasExpressions};
 ghost use Rattle.dj_line.specs.Naming.{IsNamedAt};
-ghost use Rattle.dj_line.specs.Tables.{IsWellFormed-prop, AreTables, AreTables-prop};
+ghost use Rattle.dj_tree.specs.Propositions.{IsWellFormed-prop};
+ghost use Rattle.dj_line.specs.Tables.{AreTables, AreTables-prop};
 
 use dj_formula::Formula;
 use dj_names::Names;

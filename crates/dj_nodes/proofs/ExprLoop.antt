@@ -15,11 +15,12 @@ use Rattle.dj_tree.specs.declared.expression.ExprNode.{ExprNode}
 use Rattle.dj_expr_reader.specs.declared.machine.ExprMark.{ExprMark}
 use Rattle.dj_expr_reader.specs.Marks.{Mark, expr_of}
 use Rattle.dj_expr_reader.specs.View.{plain_mark, plain_marks}
-use Rattle.dj_nodes.specs.PostOrder.{finished, IsPostOrder, IsExprOrder}
+use Rattle.dj_tree.specs.PostOrder.{finished, IsPostOrder}
+use Rattle.dj_nodes.specs.PostOrder.{IsExprOrder}
 use Rattle.dj_nodes.specs.Texts.{ExprFormText, ExprTexts}
 use Rattle.dj_nodes.proofs.Forms.{form, width, mark, expr_arities, expr_nodes, expr_in_form}
-use Rattle.dj_nodes.proofs.Growing.{at_number, kept_expr_form, expr_node_later}
-use Rattle.dj_nodes.proofs.Filling.{Filled, filled_next, filled_enough, filled_all, all_nodes}
+use Rattle.dj_tree.proofs.Growing.{at_number, kept_expr_form, expr_node_later}
+use Rattle.dj_tree.proofs.Filling.{Filled, filled_next, filled_enough, filled_all, all_nodes}
 
 -- a node with its arity is a mark
 abbrev pub node_mark : List Text → ExprNode → Mark

@@ -27,8 +27,9 @@ use Rattle.dj_expr_reader.specs.Marks.{Mark, marks_of, marks_each, expr_of, Spel
 use Rattle.dj_expr_reader.specs.View.{plain_mark, plain_marks}
 use Rattle.dj_expr_reader.proofs.OneExpression.{expr_of_marks}
 use Rattle.dj_formula_reader.proofs.OneFormula.{each_operator}
-use Rattle.dj_nodes.specs.PostOrder.{finished, formula_arity, expr_arity, IsFormulaOrder, IsExprOrder}
-use Rattle.dj_nodes.proofs.Orders.{finished_more, tree_of, order_of_nodes}
+use Rattle.dj_tree.specs.PostOrder.{finished}
+use Rattle.dj_nodes.specs.PostOrder.{formula_arity, expr_arity, IsFormulaOrder, IsExprOrder}
+use Rattle.dj_tree.proofs.Orders.{finished_more, tree_of, order_of_nodes}
 
 -- ---- trees in another form
 

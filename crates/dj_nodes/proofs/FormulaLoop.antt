@@ -16,11 +16,12 @@ use Rattle.dj_tree.specs.declared.formula.FormulaNode.TheVariants as node
 use Rattle.dj_formula_reader.specs.declared.machine.FormulaMark.{FormulaMark}
 use Rattle.dj_formula_reader.specs.Laws.{parts, formula_of}
 use Rattle.dj_formula_reader.specs.View.{form_of, forms_of}
-use Rattle.dj_nodes.specs.PostOrder.{finished, IsPostOrder, IsFormulaOrder}
+use Rattle.dj_tree.specs.PostOrder.{finished, IsPostOrder}
+use Rattle.dj_nodes.specs.PostOrder.{IsFormulaOrder}
 use Rattle.dj_nodes.specs.Texts.{FormulaFormText, FormulaTexts}
 use Rattle.dj_nodes.proofs.Forms.{formula_arities, formula_nodes, formula_in_form}
-use Rattle.dj_nodes.proofs.Growing.{at_number, kept_formula_form, formula_node_later}
-use Rattle.dj_nodes.proofs.Filling.{Filled, filled_next, filled_enough, filled_all, all_nodes}
+use Rattle.dj_tree.proofs.Growing.{at_number, kept_formula_form, formula_node_later}
+use Rattle.dj_tree.proofs.Filling.{Filled, filled_next, filled_enough, filled_all, all_nodes}
 
 -- some marks are done
 abbrev pub FormulaFilled : List ℕ → List FormulaMark → List Text → List Text → List FormulaNode → List FormulaNode → ℕ → Type 0

@@ -10,7 +10,8 @@ ghost use Rattle.dj_tree.specs.WellFormed.{IsExprNode};
 ghost use Rattle.dj_tree.specs.declared.expression.ExprNode.{ExprNode};
 ghost use Rattle.dj_expr_reader.specs.Marks.{expr_of};
 ghost use Rattle.dj_expr_reader.specs.View.{plain_mark, plain_marks};
-ghost use Rattle.dj_nodes.specs.PostOrder.{IsExprOrder, KeepsNodes};
+ghost use Rattle.dj_tree.specs.PostOrder.{KeepsNodes};
+ghost use Rattle.dj_nodes.specs.PostOrder.{IsExprOrder};
 ghost use Rattle.dj_nodes.specs.Texts.{ExprFormText, ExprTexts};
 
 use crate::spot::add_spot;

@@ -10,7 +10,8 @@ ghost use Rattle.dj_tree.specs.WellFormed.{IsFormulaNode};
 ghost use Rattle.dj_tree.specs.declared.formula.FormulaNode.{FormulaNode};
 ghost use Rattle.dj_formula_reader.specs.Laws.{parts, formula_of};
 ghost use Rattle.dj_formula_reader.specs.View.{form_of, forms_of};
-ghost use Rattle.dj_nodes.specs.PostOrder.{IsFormulaOrder, KeepsNodes};
+ghost use Rattle.dj_tree.specs.PostOrder.{KeepsNodes};
+ghost use Rattle.dj_nodes.specs.PostOrder.{IsFormulaOrder};
 ghost use Rattle.dj_nodes.specs.Texts.{FormulaFormText, FormulaTexts};
 
 use crate::spot::add_spot;

@@ -7,7 +7,7 @@ use Rattle.dj_tree.specs.WellFormed.{IsFormulaNode, IsExprNode}
 use Rattle.arena_walk.specs.declared.arena.NodeId.{NodeId}
 use Rattle.dj_names.specs.Texts.{Text}
 use Rattle.dj_names.proofs.Extending.{extends_reflexive, extends_transitive}
-use Rattle.dj_nodes.proofs.Growing.{kept_spot, known_later, kept_expr, kept_formula, keeps_reflexive, keeps_transitive}
+use Rattle.dj_tree.proofs.Growing.{kept_spot, known_later, kept_expr, kept_formula, keeps_reflexive, keeps_transitive}
 use Rattle.dj_tree.specs.Trees as plain
 use Rattle.dj_tree.specs.declared.declarations.Spot.{Spot}
 use Rattle.dj_parser.specs.Growth.{AreKnown, CanSay, Grew}

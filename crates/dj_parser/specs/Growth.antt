@@ -2,7 +2,7 @@
 use Rattle.std.specs.Prelude.{◌<◌, ◌≤◌, ◌+◌, ◌-◌, ◌^◌, List, length, All}
 use Rattle.std.specs.Str.{IsUtf8}
 use Rattle.dj_names.specs.Texts.{Text, Extends}
-use Rattle.dj_nodes.specs.PostOrder.{KeepsNodes}
+use Rattle.dj_tree.specs.PostOrder.{KeepsNodes}
 use Rattle.dj_tree.specs.WellFormed.{IsFormulaNode, IsExprNode}
 use Rattle.dj_parser.specs.declared.tables.Tables.{Tables}
 

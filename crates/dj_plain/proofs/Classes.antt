@@ -12,7 +12,7 @@ use Rattle.std.proofs.lemmas.Cmp.{nat_list_eq_equiv}
 use Rattle.std.proofs.lemmas.Slice.Eq.{bytes_eq-Decides}
 use Rattle.dj_names.specs.Texts.{Text}
 use Rattle.dj_tree.specs.Trees.{Class}
-use Rattle.ifj_table.specs.ClassTable.{Classes}
+use Rattle.thin_table.specs.ClassTable.{Classes}
 use Rattle.dj_plain.specs.Plain.{contains, are_distinct}
 use Rattle.dj_plain.specs.Products.{with_entries, class_entry, class_size, classes_size, names_of, MayBeAdded, MayBeAddedTo}
 use Rattle.dj_plain.proofs.Maps.{with_entries-append, or_false-first, or_false-second, and_first, and_second, not_true, class_absent}

@@ -6,7 +6,7 @@ use Rattle.dj_names.specs.Texts.{Text}
 use Rattle.dj_tree.specs.Plain.{plain_field}
 use Rattle.dj_tree.specs.Trees as plain
 use Rattle.dj_tree.specs.declared.declarations.FieldDecl.{FieldDecl}
-use Rattle.ifj_table.specs.ClassTable.{Classes, with_field, changed_at}
+use Rattle.thin_table.specs.ClassTable.{Classes, with_field, changed_at}
 use Rattle.dj_plain.specs.Plain.{contains, are_distinct}
 use Rattle.dj_plain.specs.Products.{table_class}
 use Rattle.dj_plain.proofs.DistinctTexts.{map_more}

@@ -9,7 +9,7 @@ use Rattle.std.proofs.lemmas.Map.Text.{is_eq-slice_cmp}
 use Rattle.std.proofs.lemmas.Slice.Eq.{bytes_eq-Decides}
 use Rattle.dj_names.specs.Texts.{Text}
 use Rattle.dj_tree.specs.Trees.{Field, Class}
-use Rattle.ifj_table.specs.ClassTable.{text_cmp, TextMap, Class as TableClass, Classes, with_field, with_value, changed_at}
+use Rattle.thin_table.specs.ClassTable.{text_cmp, TextMap, Class as TableClass, Classes, with_field, with_value, changed_at}
 use Rattle.dj_plain.specs.Plain.{contains, are_distinct}
 use Rattle.dj_plain.specs.Products.{with_entries, field_entry, table_class, class_entry, names_of}
 

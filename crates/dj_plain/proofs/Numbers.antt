@@ -13,7 +13,7 @@ use Rattle.dj_calculus.specs.Accepted.{IsAccepted}
 use Rattle.dj_calculus.specs.Configurations.{Configuration}
 use Rattle.dj_calculus.specs.Contents.{added_by, classes_of}
 use Rattle.dj_line.specs.Orders.{is_active}
-use Rattle.ifj_table.specs.ClassTable.{text_cmp}
+use Rattle.thin_table.specs.ClassTable.{text_cmp}
 use Rattle.dj_plain.specs.Plain.{are_distinct}
 use Rattle.dj_plain.specs.Products.{added_classes, classes_at, active_classes, classes_size, names_of, MayBeAdded, MayBeAddedTo}
 use Rattle.dj_plain.proofs.Accepted.{may_be_added}

@@ -8,7 +8,7 @@ use Rattle.dj_tree.specs.Trees.{Spot, Field, Class, Delta, Source}
 use Rattle.dj_calculus.specs.Configurations.{Configuration}
 use Rattle.dj_calculus.specs.Contents.{added_by, classes_of}
 use Rattle.dj_line.specs.Orders.{is_active}
-use Rattle.ifj_table.specs.ClassTable.{TextMap, Classes, Class as TableClass}
+use Rattle.thin_table.specs.ClassTable.{TextMap, Classes, Class as TableClass}
 use Rattle.dj_plain.specs.Plain.{are_distinct}
 
 -- a map with more entries put in, one behind the other

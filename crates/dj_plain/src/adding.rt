@@ -11,7 +11,7 @@ ghost use Rattle.dj_plain.specs.Views.{class_added};
 
 use crate::texts::{parent_text, text_of};
 use dj_tree::{ClassDecl, ClassOp, Source};
-use ifj_table::Table;
+use thin_table::Table;
 use std::alloc::AllocError as NoMemory;
 
 // Puts the classes that operations add into a table.

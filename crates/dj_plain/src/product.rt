@@ -3,7 +3,7 @@ ghost use Rattle.std.specs.Prelude.{◌≡◌, ◌+◌, ◌*◌, ◌^◌, ◌<�
 ghost use Rattle.std.specs.List.{flat_map};
 ghost use Rattle.dj_tree.specs.Plain.{plain_source};
 ghost use Rattle.dj_tree.specs.WellFormed.{IsOperation, IsWellFormed};
-ghost use Rattle.ifj_table.specs.CanonicalText.{canonical_text};
+ghost use Rattle.thin_table.specs.CanonicalText.{canonical_text};
 ghost use Rattle.dj_line.specs.Lines.{plain_line};
 ghost use Rattle.dj_plain.specs.Plain.{is_plain};
 ghost use Rattle.dj_plain.specs.Products.{with_entries, class_entry, active_classes, classes_at, product_of, classes_size, source_size, MayBeAddedTo};
@@ -12,7 +12,7 @@ ghost use Rattle.dj_plain.specs.Views.{class_added};
 use crate::adding::add_operations;
 use dj_line::{Config, Line};
 use dj_tree::{ClassOp, Source};
-use ifj_table::Table;
+use thin_table::Table;
 use std::alloc::{AllocError as NoMemory, Global};
 
 /// The canonical Java text of a plain line's product: of exactly the classes that the active deltas of

@@ -9,7 +9,7 @@ use Rattle.dj_report.specs.Refusals.{IsRefusalText}
 use Rattle.dj_report.specs.WordTexts.{configuration_text, order_text}
 use Rattle.dj_refusals.specs.declared.refusal.Refusal.{Refusal}
 use Rattle.dj_front.specs.Files.{IsLineFile, IsRefusedFor}
-use Rattle.ifj_table.specs.CanonicalText.{line as text_line, canonical_text}
+use Rattle.thin_table.specs.CanonicalText.{line as text_line, canonical_text}
 use Rattle.dj_plain.specs.Plain.{is_plain}
 use Rattle.dj_plain.specs.Products.{product_of}
 use Rattle.dj_run.specs.Commands.{Command, check, generate, generate_in_order, verify, explain, typecheck, sample, try, command_of, ReadsFile}

@@ -11,3 +11,5 @@ pub mod LineGrammar
 pub mod Spells
 pub mod Laws
 pub mod Examples
+pub mod PostOrder
+pub mod Propositions

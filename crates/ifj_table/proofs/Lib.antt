@@ -1,5 +1,12 @@
-pub mod Sorted
-pub mod Entries
-pub mod Classes
-pub mod Changes
-pub mod Lines
+pub mod MapLists
+pub mod Searching
+pub mod EntryGrowth
+pub mod EntryMaps
+pub mod TableLemmas
+pub mod TableChanges
+pub mod MemberLemmas
+pub mod Copying
+pub mod OwnNames
+pub mod Climbing
+pub mod Superclasses
+pub mod Inherited

@@ -1,80 +1,65 @@
--- How a table holds its classes: entries in the order of their names, with the numbers of names in place of texts.
-use Rattle.std.specs.Prelude.{◌<◌, ℕ, List, [], map, length, slice_index_or, T}
-use Rattle.std.specs.List.{All, position_or_len}
-use Rattle.std.specs.Ordering.{is_ge}
-use Rattle.std.specs.FinMap.{from_sorted, is_sorted}
+-- Which entries a table may keep.
+use Rattle.std.proofs.Props.{props}
+use Rattle.std.specs.Prelude.{◌≡◌, ◌<◌, ℕ, false, List, All, map, length}
+use Rattle.std.specs.Str.{bytes_eq}
 use Rattle.dj_names.specs.Texts.{Text}
-use Rattle.ifj_table.specs.ClassTable.{Class, FieldPlaces, ClassPlaces, ClassTable, text_cmp}
-use Rattle.ifj_table.specs.declared.table.Table.TheInside.{Inside}
-use Rattle.ifj_table.specs.declared.entry.Entry.{Entry}
-use Rattle.ifj_table.specs.declared.entry.ClassBody.{ClassBody}
-use Rattle.ifj_table.specs.declared.entry.FieldBody.{FieldBody}
+use Rattle.dj_tree.specs.Plain.{plain_expr}
+use Rattle.dj_tree.specs.Propositions.{IsExprNode-prop}
+use Rattle.dj_tree.specs.WellFormed.{IsKnown, IsExprNode}
+use Rattle.dj_tree.specs.declared.expression.ExprNode.{ExprNode}
+use Rattle.dj_calculus.specs.Expressions.{IsExpression}
+use Rattle.dj_calculus.specs.Subclasses.{object}
+use Rattle.ifj_table.specs.Sorted.{AreRising}
+use Rattle.ifj_table.specs.Entries.{text_at}
+use Rattle.ifj_table.specs.declared.entry.FieldEntry.{FieldEntry}
+use Rattle.ifj_table.specs.declared.entry.Body.{Body}
+use Rattle.ifj_table.specs.declared.entry.MethodEntry.{MethodEntry}
+use Rattle.ifj_table.specs.declared.entry.ClassEntry.{ClassEntry}
 
--- the text of a name
-abbrev pub text_of : List Text → ℕ → Text
-text_of texts name = slice_index_or texts name []
+-- each name and node that an entry speaks of is there, each body is an expression with as many names as the signature has types, and each
+-- method has a body
+pub record IsFieldEntry (names : List Text) (f : FieldEntry) : Type 0 where
+  pub spot : IsKnown names f.spot
+  pub kind : IsKnown names f.kind
 
--- the entries by the texts of their names, each with what `read` makes of it
-abbrev pub named : {B X : Type 0} → List Text → (Entry B → X) → List (Entry B) → List (Text × X)
-named texts read entries = map (λ entry. (text_of texts entry.name.0, read entry)) entries
+pub record IsBody (names : List Text) (exprs : List ExprNode) (types : ℕ) (b : Body) : Type 0 where
+  pub parameters : All (IsKnown names) b.parameters
+  pub count : length b.parameters ≡ types
+  pub root : b.root.0 < length exprs
+  pub expression : IsExpression (plain_expr names exprs b.root.0)
 
--- the first place whose name isn't below the text
-abbrev pub place_among : {B : Type 0} → List Text → List (Entry B) → Text → ℕ
-place_among texts entries text = position_or_len (λ entry. is_ge (text_cmp (text_of texts entry.name.0) text)) entries
+pub record IsMethodEntry (names : List Text) (exprs : List ExprNode) (m : MethodEntry) : Type 0 where
+  pub spot : IsKnown names m.spot
+  pub result : IsKnown names m.result
+  pub parameters : All (IsKnown names) m.parameters
+  pub some : 0 < length m.bodies.items
+  pub bodies : All (IsBody names exprs (length m.parameters)) m.bodies.items
 
--- the names of the entries are numbers of the list
-abbrev pub AreKnown : {B : Type 0} → List Text → List (Entry B) → Type 0
-AreKnown texts entries = All (λ entry. entry.name.0 < length texts) entries
+pub record IsClassEntry (names : List Text) (exprs : List ExprNode) (c : ClassEntry) : Type 0 where
+  pub spot : IsKnown names c.spot
+  pub parent : IsKnown names c.parent
+  pub declarable : bytes_eq (text_at names c.spot) object ≡ false
+  pub fields : All (IsFieldEntry names) c.fields.items
+  pub rising_fields : AreRising (map (λ f. text_at names f.spot) c.fields.items)
+  pub methods : All (IsMethodEntry names exprs) c.methods.items
+  pub rising_methods : AreRising (map (λ m. text_at names m.spot) c.methods.items)
 
--- the texts of the names rise strictly
-abbrev pub AreRising : {B : Type 0} → List Text → List (Entry B) → Type 0
-AreRising texts entries = T (is_sorted text_cmp (named texts (λ entry. entry) entries))
+-- the classes of a table, each of which is one, in the order of their names
+pub record AreClasses (names : List Text) (exprs : List ExprNode) (classes : List ClassEntry) : Type 0 where
+  pub nodes : All (IsExprNode names) exprs
+  pub each : All (IsClassEntry names exprs) classes
+  pub rising : AreRising (map (λ c. text_at names c.spot) classes)
 
--- a field and a class that is held over these texts
-pub record IsField (texts : List Text) (field : Entry FieldBody) : Type 0 where
-  pub name : field.name.0 < length texts
-  pub kind : field.body.kind.0 < length texts
+-- ---- these are propositions
 
-pub record IsClass (texts : List Text) (class : Entry ClassBody) : Type 0 where
-  pub name : class.name.0 < length texts
-  pub parent : class.body.parent.0 < length texts
-  pub fields : All (IsField texts) class.body.fields.items
-  pub rising : AreRising texts class.body.fields.items
+IsBody-prop : (names : List Text) (exprs : List ExprNode) (types : ℕ) (b : Body) → IsProp (IsBody names exprs types b)
+IsBody-prop names exprs types b = hlevel props
 
-pub record AreClasses (texts : List Text) (classes : List (Entry ClassBody)) : Type 0 where
-  pub each : All (IsClass texts) classes
-  pub rising : AreRising texts classes
+IsMethodEntry-prop : (names : List Text) (exprs : List ExprNode) (m : MethodEntry) → IsProp (IsMethodEntry names exprs m)
+IsMethodEntry-prop names exprs m = hlevel (props, IsBody-prop)
 
--- a field's type and places, and a class with its places
-abbrev pub kind_of : List Text → Entry FieldBody → Text
-kind_of texts field = text_of texts field.body.kind.0
+IsClassEntry-prop : (names : List Text) (exprs : List ExprNode) (c : ClassEntry) → IsProp (IsClassEntry names exprs c)
+IsClassEntry-prop names exprs c = hlevel (props, IsMethodEntry-prop)
 
-abbrev pub field_places_of : Entry FieldBody → FieldPlaces
-field_places_of field = record { name_at = field.at; kind_at = field.body.kind_at }
-
-abbrev pub class_of : List Text → Entry ClassBody → Class
-class_of texts class =
-    record {
-      parent = text_of texts class.body.parent.0;
-      fields = from_sorted (named texts (kind_of texts) class.body.fields.items);
-    }
-
-abbrev pub places_of : List Text → Entry ClassBody → ClassPlaces
-places_of texts class =
-    record {
-      name_at = class.at;
-      parent_at = class.body.parent_at;
-      field_places = from_sorted (named texts field_places_of class.body.fields.items);
-    }
-
--- what a table is seen as
-abbrev pub table_of : Inside → ClassTable
-table_of table =
-    record {
-      classes = from_sorted (named table.names (class_of table.names) table.classes.items);
-      places = from_sorted (named table.names (places_of table.names) table.classes.items);
-      texts = table.names;
-    }
-
-abbrev pub IsHeld : Inside → Type 0
-IsHeld table = AreClasses table.names table.classes.items
+pub AreClasses-prop : (names : List Text) (exprs : List ExprNode) (classes : List ClassEntry) → IsProp (AreClasses names exprs classes)
+AreClasses-prop names exprs classes = hlevel (props, IsExprNode-prop, IsClassEntry-prop)

@@ -1,4 +1,7 @@
-pub use Rattle.dj_names.specs.Texts
-pub mod ClassTable
-pub mod CanonicalText
+pub mod Sorted
+pub mod Entries
 pub mod Held
+pub mod Tables
+pub mod Changes
+pub mod Redeclared
+pub mod Lookups

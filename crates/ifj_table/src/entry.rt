@@ -1,41 +1,64 @@
-//! Entries in the order of the texts of their names.
+//! What a table keeps of classes and their members. Each name is one of the table's own, with the byte offset of the
+//! declaration in force.
 ghost use Rattle.std.specs.Prelude.{◌≡◌};
-ghost use Rattle.ifj_table.specs.Held.{AreKnown, place_among};
 
-use dj_names::{Name, Names};
+use crate::keyed::Keyed;
+use arena_walk::NodeId;
+use dj_names::Name;
+use dj_tree::{Listed, Spot};
 
-/// A declaration: its name, the byte offset of the name, and what is declared.
-#[derive(Drop)]
-pub struct Entry<B> {
-    pub name: Name,
-    pub at: u32,
-    pub body: B,
+/// A field with its type.
+#[derive(Clone, Copy, Debug, PartialEq, Eq)]
+pub struct FieldEntry {
+    pub spot: Spot,
+    pub kind: Spot,
 }
 
-/// A superclass with the byte offset of its name, and the fields in the order of their names.
+/// A body: the names of its parameters, and the root of its expression among the table's nodes.
 #[derive(Drop)]
-pub struct ClassBody {
-    pub parent: Name,
-    pub parent_at: u32,
-    pub fields: Vec<Entry<FieldBody>>,
+pub struct Body {
+    pub parameters: Listed<Spot>,
+    pub root: NodeId,
 }
 
-/// The type of a field, with the byte offset of its name.
+/// A method: its result type, its name, the types of its parameters, and its bodies, the oldest first.
 #[derive(Drop)]
-pub struct FieldBody {
-    pub kind: Name,
-    pub kind_at: u32,
+pub struct MethodEntry {
+    pub result: Spot,
+    pub spot: Spot,
+    pub parameters: Listed<Spot>,
+    pub bodies: Vec<Body>,
 }
 
-/// The first place whose name isn't below a text: where the text stands among the entries, or would stand.
-pub fn position<B>(names: &Names, entries: &[Entry<B>], text: &str) -> usize
-    requires { AreKnown names.now entries.now }
-    ensures { result ≡ place_among names.now entries.now text.now }
-{
-    for (index, entry) in entries.iter().enumerate() {
-        if names.text(entry.name) >= text {
-            return index;
-        }
+/// A class with its superclass. Its fields and its methods stand by the bytes of their names.
+#[derive(Drop)]
+pub struct ClassEntry {
+    pub spot: Spot,
+    pub parent: Spot,
+    pub fields: Vec<FieldEntry>,
+    pub methods: Vec<MethodEntry>,
+}
+
+impl Keyed for FieldEntry {
+    ghost key_of = { λ f. f.spot };
+
+    fn key(&self) -> Spot {
+        self.spot
     }
-    entries.len()
+}
+
+impl Keyed for MethodEntry {
+    ghost key_of = { λ m. m.spot };
+
+    fn key(&self) -> Spot {
+        self.spot
+    }
+}
+
+impl Keyed for ClassEntry {
+    ghost key_of = { λ c. c.spot };
+
+    fn key(&self) -> Spot {
+        self.spot
+    }
 }

@@ -1,8 +1,15 @@
-//! Class tables: classes with a superclass and fields, where their names stand, and their canonical Java text.
+//! Class tables: classes with a superclass, fields and methods, each with the bodies that it keeps.
 #![tactic(auto)]
 
+mod copy;
 mod entry;
+mod fields;
+mod keyed;
+mod lookups;
+mod methods;
+mod owned;
 mod table;
-mod text;
 
+pub use entry::{Body, ClassEntry, FieldEntry, MethodEntry};
+pub use lookups::Found;
 pub use table::Table;

@@ -1,63 +1,130 @@
 //! A table of classes.
-ghost use Rattle.std.specs.Prelude.{◌≡◌, ◌≢◌, ◌+◌, ◌^◌, ◌<◌, ◌≤◌, [], length, codes, IsSome, IfSome, IfOk, OnOk, OnErr};
-ghost use Rattle.std.specs.FinMap as map;
-ghost use Rattle.dj_names.specs.Texts.{Extends};
-ghost use Rattle.ifj_table.specs.ClassTable.{changed_at, without_fields, with_field, placed_without_fields, with_field_places};
-ghost use Rattle.ifj_table.specs.CanonicalText.{canonical_text};
+ghost use Rattle.std.specs.Prelude.{◌≡◌};
+ghost use Rattle.ifj_table.specs.Held.{AreClasses, AreClasses-prop};
 
-use crate::entry::{ClassBody, Entry, FieldBody, position};
-use crate::text::push_class;
-use dj_names::Names;
+use crate::entry::ClassEntry;
+use crate::keyed::{gap, place, search};
+use arena_walk::Arena;
+use dj_names::{Name, Names};
+use dj_tree::{ExprNode, Spot};
 use std::alloc::{AllocError as NoMemory, Global};
-use std::marker::Model;
 
-/// Classes, each with its superclass and its fields. A clause sees finite maps over texts: `classes`, `places` with
-/// the byte offsets of their names, and `texts`, the names that have a number in this table.
+/// Classes with their fields, their methods and the bodies of these. A table owns the names and the nodes that it
+/// speaks of by number. `plain_table` gives the class table that it stands for.
 #[derive(Drop)]
 pub struct Table {
-    alloc: Global,
-    names: Names,
-    classes: Vec<Entry<ClassBody>>,
-}
-
-impl Model for Table {
-    ghost use Rattle.ifj_table.specs.ClassTable.{ClassTable, coded_table};
-
-    ghost Value = { ClassTable };
-
-    ghost coded = { coded_table };
-
-    ghost use Rattle.ifj_table.specs.Held.{table_of, IsHeld};
-
-    ghost view = { table_of };
-
-    ghost invariant = { IsHeld };
+    pub(crate) names: Names,
+    pub(crate) exprs: Arena<ExprNode>,
+    pub(crate) classes: Vec<ClassEntry>,
+    ghost held: { AreClasses names exprs classes.items } by { AreClasses-prop names exprs classes.items },
 }
 
 impl Table {
+    ghost use Rattle.std.specs.Prelude.{◌≡◌, ◌≢◌, ◌+◌, ◌^◌, ◌<◌, ◌≤◌, ℕ, None, Some, [], length, slice_get, IsSome, IfSome, IfOk, OnOk, OnErr, MatchOption, MatchResult};
+    ghost use Rattle.std.specs.FinMap as map;
+    ghost use Rattle.dj_names.specs.Texts.{Extends};
+    ghost use Rattle.dj_tree.specs.Plain.{plain_spot};
+    ghost use Rattle.dj_tree.specs.WellFormed.{IsKnown};
+    ghost use Rattle.dj_calculus.specs.Tables.{empty_table};
+    ghost use Rattle.dj_calculus.specs.TableForms.{IsTable};
+    ghost use Rattle.dj_calculus.specs.Subclasses.{object, HasSuperclass};
+    ghost use Rattle.ifj_table.specs.Entries.{plain_class};
+    ghost use Rattle.ifj_table.specs.Held.{AreClasses};
+    ghost use Rattle.ifj_table.specs.Tables.{plain_table, table_names, table_nodes, table_classes, name_text, class_keys};
+    ghost use Rattle.ifj_table.specs.Sorted.{IsGap};
+    ghost use Rattle.ifj_table.specs.Lookups.{IsClassOf};
+    ghost use Rattle.ifj_table.specs.Changes.{changed_at, bare_class, with_parent};
+
     /// A table without classes.
     pub fn new(alloc: Global) -> Table
-        ensures classes { result.classes ≡ map.empty }
-        ensures places { result.places ≡ map.empty }
-        ensures texts { result.texts ≡ [] }
+        ensures classes { plain_table result ≡ empty_table }
+        ensures names { table_names result ≡ [] }
+        ensures nodes { table_nodes result ≡ [] }
     {
         Table {
-            alloc,
             names: Names::new(alloc),
+            exprs: Arena::new(alloc),
             classes: Vec::new(alloc),
         }
     }
 
-    /// The names that this table's classes, fields and types are numbered by.
+    /// The names that the table speaks of by number.
     pub fn names(&self) -> &Names
-        ensures { result.now ≡ self.now.texts }
+        ensures { result.now ≡ table_names self.now }
     {
         &self.names
     }
 
-    /// Adds a class without fields. The class isn't there yet and isn't `Object`. `at` and `parent_at` are the byte
-    /// offsets of its name and of the name of its superclass. Without memory the classes and their places stay as they
-    /// were, while `names` may have grown.
+    /// The nodes of the bodies.
+    pub fn exprs(&self) -> &Arena<ExprNode>
+        ensures { result.now ≡ table_nodes self.now }
+    {
+        &self.exprs
+    }
+
+    /// The classes by the bytes of their names.
+    pub fn classes(&self) -> &[ClassEntry]
+        ensures classes { result.now ≡ table_classes self.now }
+        ensures held { AreClasses (table_names self.now) (table_nodes self.now) result.now }
+    {
+        self.classes.as_slice()
+    }
+
+    /// The class of a name of the table, and `None` where it has none.
+    pub fn class_of(&self, class: Name) -> Option<&ClassEntry>
+        requires { class.0 < length (table_names self.now) }
+        ensures found { MatchOption result (map.get (plain_table self.now) (name_text self.now class.0) ≡ None)
+            (λ entry. map.get (plain_table self.now) (name_text self.now class.0)
+                ≡ Some (plain_class (table_names self.now) (table_nodes self.now) entry.now)) }
+        ensures class { IfSome result (λ entry. IsClassOf self.now class.0 entry.now) }
+    {
+        match self.find_class(self.names.text(class)) {
+            Ok(at) => Some(&self.classes[at]),
+            Err(_) => None,
+        }
+    }
+
+    // The number of the class of this name, and else the number at which it would stand.
+    fn find_class(&self, class: &str) -> Result<usize, usize>
+        ensures { MatchResult result (λ at. slice_get (class_keys self.now) at ≡ Some class.now) (IsGap (class_keys self.now) class.now) }
+    {
+        search(&self.names, &self.classes, class)
+    }
+
+    // The number of the class of a name that has one.
+    pub(crate) fn class_place(&self, class: &str) -> usize
+        requires { IsSome (map.get (plain_table self.now) class.now) }
+        ensures { slice_get (class_keys self.now) result ≡ Some class.now }
+    {
+        place(&self.names, &self.classes, class)
+    }
+
+    // The number at which the class of a name that has none would stand.
+    pub(crate) fn class_gap(&self, class: &str) -> usize
+        requires { map.get (plain_table self.now) class.now ≡ None }
+        ensures { IsGap (class_keys self.now) class.now result }
+    {
+        gap(&self.names, &self.classes, class)
+    }
+
+    // Puts a name into the table of names.
+    pub(crate) fn spot(&mut self, text: &str, at: u32) -> Result<Spot, NoMemory>
+        requires room { length (table_names self.old) + 1 < 2 ^ 32 }
+        ensures means { IfOk result (λ spot. plain_spot (table_names self.new) spot ≡ record { text = text.now; at = at }) }
+        ensures known { IfOk result (IsKnown (table_names self.new)) }
+        ensures table { plain_table self.new ≡ plain_table self.old }
+        ensures classes { table_classes self.new ≡ table_classes self.old }
+        ensures nodes { table_nodes self.new ≡ table_nodes self.old }
+        ensures numbers { Extends (table_names self.old) (table_names self.new) }
+        ensures few { length (table_names self.new) ≤ length (table_names self.old) + 1 }
+    {
+        let name = self.names.add(text)?;
+        Ok(Spot { name, at })
+    }
+
+    /// Adds a class without members. The class isn't there yet and isn't `Object`. `at` and `parent_at` are the byte
+    /// offsets of its name and of the name of its superclass. Without memory the class table stays as it is, while the
+    /// names may have grown.
     pub fn add_class(
         &mut self,
         class: &str,
@@ -65,90 +132,65 @@ impl Table {
         at: u32,
         parent_at: u32,
     ) -> Result<(), NoMemory>
-        requires absent { map.get self.old.classes class.now ≡ None }
-        requires declarable { class.now ≢ codes "Object" }
-        requires room { length self.old.texts + 2 < 2 ^ 32 }
-        ensures added { OnOk result (self.new.classes ≡ map.insert self.old.classes class.now (without_fields parent.now)) }
-        ensures placed { OnOk result (self.new.places ≡ map.insert self.old.places class.now (placed_without_fields at parent_at)) }
-        ensures err { OnErr result (self.new.classes ≡ self.old.classes) }
-        ensures err_places { OnErr result (self.new.places ≡ self.old.places) }
-        ensures texts { Extends self.old.texts self.new.texts }
-        ensures few_texts { length self.new.texts ≤ length self.old.texts + 2 }
+        requires absent { map.get (plain_table self.old) class.now ≡ None }
+        requires declarable { class.now ≢ object }
+        requires room { length (table_names self.old) + 2 < 2 ^ 32 }
+        ensures added { OnOk result (plain_table self.new ≡ map.insert (plain_table self.old) class.now (bare_class at (record { text = parent.now; at = parent_at }))) }
+        ensures err { OnErr result (plain_table self.new ≡ plain_table self.old) }
+        ensures nodes { table_nodes self.new ≡ table_nodes self.old }
+        ensures numbers { Extends (table_names self.old) (table_names self.new) }
+        ensures few { length (table_names self.new) ≤ length (table_names self.old) + 2 }
     {
-        let name = self.names.add(class)?;
-        let parent = self.names.add(parent)?;
-        let index = position(&self.names, &self.classes, class);
-        let body = ClassBody {
+        let spot = self.spot(class, at)?;
+        let parent = self.spot(parent, parent_at)?;
+        let gap = self.class_gap(class);
+        let alloc = *self.classes.allocator();
+        let entry = ClassEntry {
+            spot,
             parent,
-            parent_at,
-            fields: Vec::new(self.alloc),
+            fields: Vec::new(alloc),
+            methods: Vec::new(alloc),
         };
-        self.classes.insert(index, Entry { name, at, body })?;
+        self.classes.insert(gap, entry)?;
         Ok(())
     }
 
-    /// Adds a field of the type `kind` to a class that is there and has no field of this name. `at` and `kind_at` are
-    /// the byte offsets of the names of the field and of its type. Without memory the classes and their places stay as
-    /// they were, while `names` may have grown.
-    pub fn add_field(
-        &mut self,
-        class: &str,
-        field: &str,
-        kind: &str,
-        at: u32,
-        kind_at: u32,
-    ) -> Result<(), NoMemory>
-        requires there { IsSome (map.get self.old.classes class.now) }
-        requires absent { IfSome (map.get self.old.classes class.now) (λ c. map.get c.fields field.now ≡ None) }
-        requires room { length self.old.texts + 2 < 2 ^ 32 }
-        ensures added { OnOk result (self.new.classes ≡ changed_at self.old.classes class.now (with_field field.now kind.now)) }
-        ensures placed { OnOk result (self.new.places ≡ changed_at self.old.places class.now (with_field_places field.now at kind_at)) }
-        ensures err { OnErr result (self.new.classes ≡ self.old.classes) }
-        ensures err_places { OnErr result (self.new.places ≡ self.old.places) }
-        ensures texts { Extends self.old.texts self.new.texts }
-        ensures few_texts { length self.new.texts ≤ length self.old.texts + 2 }
+    /// Gives a class that is there another superclass. `parent_at` is the byte offset of its name. Without memory the
+    /// class table stays as it is, while the names may have grown.
+    pub fn set_parent(&mut self, class: &str, parent: &str, parent_at: u32) -> Result<(), NoMemory>
+        requires there { IsSome (map.get (plain_table self.old) class.now) }
+        requires room { length (table_names self.old) + 1 < 2 ^ 32 }
+        ensures changed { OnOk result (plain_table self.new ≡ changed_at (plain_table self.old) class.now (with_parent (record { text = parent.now; at = parent_at }))) }
+        ensures err { OnErr result (plain_table self.new ≡ plain_table self.old) }
+        ensures nodes { table_nodes self.new ≡ table_nodes self.old }
+        ensures numbers { Extends (table_names self.old) (table_names self.new) }
+        ensures few { length (table_names self.new) ≤ length (table_names self.old) + 1 }
     {
-        let name = self.names.add(field)?;
-        let kind = self.names.add(kind)?;
-        let index = position(&self.names, &self.classes, class);
-        let class = &mut self.classes[index];
-        let index = position(&self.names, &class.body.fields, field);
-        let body = FieldBody { kind, kind_at };
-        class.body.fields.insert(index, Entry { name, at, body })?;
+        let parent = self.spot(parent, parent_at)?;
+        let at = self.class_place(class);
+        self.classes[at].parent = parent;
         Ok(())
     }
 
-    /// The canonical Java text of the classes: both classes and the fields of a class stand by the bytes of their names,
-    /// whatever the order in which they were added. No classes give no bytes.
-    pub fn thin_text(&self, alloc: Global) -> Result<Vec<u8>, NoMemory>
-        ensures { IfOk result (λ text. text.items ≡ canonical_text self.now.classes) }
+    /// Takes out a class that is there, with its members. It takes no memory.
+    pub fn remove_class(&mut self, class: &str)
+        requires { IsSome (map.get (plain_table self.old) class.now) }
+        ensures removed { plain_table self.new ≡ map.remove (plain_table self.old) class.now }
+        ensures nodes { table_nodes self.new ≡ table_nodes self.old }
+        ensures names { table_names self.new ≡ table_names self.old }
     {
-        let mut text = Vec::new(alloc);
-        for class in &self.classes {
-            push_class(&self.names, class, &mut text)?;
-        }
-        Ok(text)
+        let at = self.class_place(class);
+        self.classes.remove(at);
     }
-}
 
-#[cfg(test)]
-mod tests {
-    use super::*;
-    use std::test::Fail;
-
-    #[test]
-    fn classes_and_fields_stand_by_their_names(rt: HostRuntime) -> Result<(), Fail> {
-        let mut table = Table::new(rt.alloc());
-        assert_eq!(rt; table.thin_text(rt.alloc())?.as_slice(), b"".as_slice());
-        table.add_class("C", "Object", 20, 20)?;
-        table.add_class("B", "Object", 40, 40)?;
-        table.add_field("C", "g", "C", 26, 24)?;
-        table.add_field("C", "f", "Object", 36, 29)?;
-        let text =
-            "class B extends Object {\n}\nclass C extends Object {\n  Object f;\n  C g;\n}\n";
-        assert_eq!(rt; table.thin_text(rt.alloc())?.as_slice(), text.as_bytes());
-        assert_eq!(rt; table.names().find("g").is_some(), true);
-        assert_eq!(rt; table.names().find("h").is_some(), false);
-        Ok(())
+    /// The superclass of a class, and `None` where the table has no class of this name.
+    pub fn super_of(&self, class: Name) -> Option<Name>
+        requires { class.0 < length (table_names self.now) }
+        ensures found { MatchOption result (map.get (plain_table self.now) (name_text self.now class.0) ≡ None)
+            (λ parent. HasSuperclass (plain_table self.now) (name_text self.now class.0) (name_text self.now parent.0)) }
+        ensures known { IfSome result (λ parent. parent.0 < length (table_names self.now)) }
+    {
+        let entry = self.class_of(class)?;
+        Some(entry.parent.name)
     }
 }

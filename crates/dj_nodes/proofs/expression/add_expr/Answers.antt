@@ -6,7 +6,7 @@ use Rattle.dj_expr_reader.specs.View.{plain_marks}
 use Rattle.dj_nodes.specs.PostOrder.{IsExprOrder}
 use Rattle.dj_nodes.specs.Texts.{ExprTexts}
 use Rattle.dj_nodes.proofs.Forms.{expr_size}
-use Rattle.dj_nodes.proofs.Filling.{at_index}
+use Rattle.dj_tree.proofs.Filling.{at_index}
 use Rattle.dj_nodes.proofs.ExprLoop.{ExprFilled, expr_text, expr_enough, expr_next, expr_all, expr_few}
 use Rattle.dj_nodes.proofs.expression.add_expr.Goals as goal
 

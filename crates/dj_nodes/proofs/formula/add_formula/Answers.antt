@@ -6,7 +6,7 @@ use Rattle.dj_formula_reader.specs.View.{forms_of}
 use Rattle.dj_nodes.specs.PostOrder.{IsFormulaOrder}
 use Rattle.dj_nodes.specs.Texts.{FormulaTexts}
 use Rattle.dj_nodes.proofs.Forms.{formula_size}
-use Rattle.dj_nodes.proofs.Filling.{at_index}
+use Rattle.dj_tree.proofs.Filling.{at_index}
 use Rattle.dj_nodes.proofs.FormulaLoop.{FormulaFilled, formula_text, formula_enough, formula_next, formula_all, formula_few}
 use Rattle.dj_nodes.proofs.formula.add_formula.Goals as goal
 

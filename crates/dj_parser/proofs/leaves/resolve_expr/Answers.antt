@@ -3,7 +3,7 @@ use Rattle.dj_declarations.specs.View.{expr_view}
 use Rattle.dj_parser.specs.Growth.{Grew}
 use Rattle.dj_parser.specs.declared.tables.Tables.{Tables}
 use Rattle.dj_parser.specs.Said.{said_expr, expr_text}
-use Rattle.dj_nodes.proofs.Growing.{formula_nodes_later, keeps_reflexive}
+use Rattle.dj_tree.proofs.Growing.{formula_nodes_later, keeps_reflexive}
 use Rattle.dj_parser.proofs.Growing.{expr_stays}
 use Rattle.dj_parser.proofs.NodeTexts.{said_size, expr_texts}
 use Rattle.dj_parser.proofs.leaves.resolve_expr.Goals as goal

@@ -3,7 +3,7 @@ use Rattle.dj_declarations.specs.View.{formula_view}
 use Rattle.dj_parser.specs.Growth.{Grew}
 use Rattle.dj_parser.specs.declared.tables.Tables.{Tables}
 use Rattle.dj_parser.specs.Said.{said_formula, formula_text}
-use Rattle.dj_nodes.proofs.Growing.{expr_nodes_later, keeps_reflexive}
+use Rattle.dj_tree.proofs.Growing.{expr_nodes_later, keeps_reflexive}
 use Rattle.dj_parser.proofs.Growing.{formula_stays}
 use Rattle.dj_parser.proofs.NodeTexts.{said_size, formula_texts}
 use Rattle.dj_parser.proofs.leaves.resolve_formula.Goals as goal

@@ -5,7 +5,7 @@ use Rattle.dj_declarations.specs.View.{spot_at}
 use Rattle.dj_parser.specs.Growth.{Grew}
 use Rattle.dj_parser.specs.declared.tables.Tables.{Tables}
 use Rattle.dj_parser.specs.Said.{said_spot}
-use Rattle.dj_nodes.proofs.Growing.{formula_nodes_later, expr_nodes_later, keeps_reflexive}
+use Rattle.dj_tree.proofs.Growing.{formula_nodes_later, expr_nodes_later, keeps_reflexive}
 use Rattle.dj_parser.proofs.Growing.{spot_stays}
 use Rattle.dj_parser.proofs.leaves.resolve_spot.Goals as goal
 

@@ -2,7 +2,7 @@ use Rattle.std.proofs.Common.{[], map, take, rules, arith, sym, ap, ◌∙◌}
 use Rattle.std.specs.FinMap as finite_map
 use Rattle.std.specs.Option.{option_map}
 use Rattle.dj_tree.specs.Plain.{plain_spot, plain_field}
-use Rattle.ifj_table.specs.ClassTable.{Classes}
+use Rattle.thin_table.specs.ClassTable.{Classes}
 use Rattle.dj_plain.specs.Products.{table_class, parent_text}
 use Rattle.dj_plain.proofs.Maps.{put_there, get_put-same}
 use Rattle.dj_plain.proofs.Fields.{next_absent, next_added}

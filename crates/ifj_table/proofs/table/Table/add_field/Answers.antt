@@ -1,161 +1,99 @@
-use Rattle.std.proofs.Common.{◌≡◌, ◌∙◌, List, sym, ap, subst, None, IsSome, IfSome, get_or, arith}
-use Rattle.std.specs.List.{insert}
-use Rattle.std.specs.FinMap as map
-use Rattle.ifj_table.specs.declared.entry.Entry.{Entry}
-use Rattle.ifj_table.specs.declared.entry.FieldBody.{FieldBody}
-use Rattle.ifj_table.specs.ClassTable.{ClassTable}
-use Rattle.ifj_table.specs.Held.{IsField, AreKnown, place_among}
-use Rattle.ifj_table.proofs.Entries.{place_among-le}
-use Rattle.ifj_table.proofs.Classes.{classes-grown, text_of-name, known-name}
-use Rattle.ifj_table.proofs.Changes.{on_err, classes-same, places-same, index-lt, known_class, held-same, classes-unchanged, places-unchanged, held-added, classes-added, places-added}
+use Rattle.std.proofs.Common.{◌≡◌, ℕ, None, map, slice_get, Some, refl, sym, ap, ap₂, ◌∙◌, subst}
+use Rattle.std.specs.FinMap as finite
+use Rattle.std.specs.FinMap.{get}
+use Rattle.dj_tree.specs.Plain.{plain_spot}
+use Rattle.dj_tree.proofs.Growing.{kept_spot, known_later}
+use Rattle.ifj_table.specs.Entries.{plain_class, classes_of, fields_of, plain_field}
+use Rattle.ifj_table.specs.Held.{IsFieldEntry}
+use Rattle.ifj_table.specs.Changes.{changed_at, with_field}
+use Rattle.ifj_table.specs.declared.entry.FieldEntry.{FieldEntry}
+use Rattle.ifj_table.specs.declared.entry.ClassEntry.{ClassEntry}
+use Rattle.ifj_table.proofs.EntryMaps.{set_itself}
+use Rattle.ifj_table.proofs.TableChanges.{with_changed, map_with_changed, unchanged}
+use Rattle.ifj_table.proofs.MemberLemmas.{if_some, either_way, on_ok, on_err, field_key, stands, is_class, reads, with_fields, field_absent, more_fields, map_more_fields}
 use Rattle.ifj_table.proofs.table.Table.add_field.Goals as goal
-use Rattle.dj_names.proofs.Extending.{extends_reflexive, extends_transitive}
 
-pub invariant_of-self-in_err-kind : goal.invariant_of-self-in_err-kind
-invariant_of-self-in_err-kind c =
-    classes-grown c.self.inside.names c.add-2.new.self (extends_transitive _ _ _ c.in_ok-name.ensures.numbers c.in_err-kind.ensures.numbers) c.self.inside.classes.items c.self.invariant
+pub insert_entry-requires-clause-rising : goal.insert_entry-requires-clause-rising
+insert_entry-requires-clause-rising c =
+    let t = c.spot-2.new.self in
+    (is_class t.names t.exprs t.classes.items t.held c.class_place-place.result c.args.class.now c.index_mut.result.now c.class_place-place.ensures c.index_mut.ensures.value).rising_fields
 
-pub returns-in_err-kind-clause-err : goal.returns-in_err-kind-clause-err
-returns-in_err-kind-clause-err c =
-    let grown = extends_transitive _ _ _ c.in_ok-name.ensures.numbers c.in_err-kind.ensures.numbers in
-    on_err _ _ (classes-same c.self.inside.names c.add-2.new.self grown c.self.inside.classes.items c.self.invariant ∙ ap (λ (t : ClassTable). t.classes) c.self.view_is)
+pub insert_entry-requires-clause-absent : goal.insert_entry-requires-clause-absent
+insert_entry-requires-clause-absent c =
+    let t = c.spot-2.new.self in
+    let names = c.spot.new.self.names in
+    let old = c.index_mut.result.now in
+    let at = c.class_place-place.result in
+    let f : FieldEntry = record { spot = c.in_ok-spot.spot; kind = c.in_ok-kind.kind } in
+    let means = kept_spot names t.names f.spot c.spot-2.ensures.numbers c.in_ok-spot.ensures.known ∙ c.in_ok-spot.ensures.means in
+    let key : field_key t.names f ≡ c.args.field.now = ap (λ s. s.text) means in
+    let is = is_class t.names t.exprs t.classes.items t.held at c.args.class.now old c.class_place-place.ensures c.index_mut.ensures.value in
+    let before = c.spot-2.ensures.table ∙ c.spot.ensures.table in
+    let there = sym (ap (λ m. get m c.args.class.now) before) ∙ reads t.names t.exprs t.classes.items t.held at c.args.class.now old c.class_place-place.ensures c.index_mut.ensures.value in
+    let none = if_some (λ e. get e.fields c.args.field.now ≡ None) _ (plain_class t.names t.exprs old) there c.requires.absent in
+    λ k. subst (λ key. ¬ (slice_get (map (field_key t.names) old.fields.items) k ≡ Some key)) (sym key) (field_absent t.names t.exprs old is c.args.field.now k none)
 
-pub returns-in_err-kind-clause-err_places : goal.returns-in_err-kind-clause-err_places
-returns-in_err-kind-clause-err_places c =
-    let grown = extends_transitive _ _ _ c.in_ok-name.ensures.numbers c.in_err-kind.ensures.numbers in
-    on_err _ _ (places-same c.self.inside.names c.add-2.new.self grown c.self.inside.classes.items c.self.invariant ∙ ap (λ (t : ClassTable). t.places) c.self.view_is)
-
-pub index_mut-class-requires : goal.index_mut-class-requires
-index_mut-class-requires c =
-    let before = c.self.inside.names in
-    let after = c.add-2.new.self in
-    let grown = extends_transitive before c.add.new.self after c.in_ok-name.ensures.numbers c.in_ok-kind.ensures.numbers in
-    let classes = c.self.inside.classes.items in
-    let name = c.args.class.now in
-    let there = subst (λ (t : ClassTable). IsSome (map.get t.classes name)) (sym c.self.view_is) c.requires.there in
-    let at = c.position-index.ensures ∙ ap (λ es. place_among after es name) c.deref.ensures.value in
-    omega (arith, at, index-lt before after grown classes c.self.invariant name there)
-
-pub position-index-requires-2 : goal.position-index-requires-2
-position-index-requires-2 c =
-    let before = c.self.inside.names in
-    let after = c.add-2.new.self in
-    let grown = extends_transitive before c.add.new.self after c.in_ok-name.ensures.numbers c.in_ok-kind.ensures.numbers in
-    let classes = c.self.inside.classes.items in
-    let name = c.args.class.now in
-    let there = subst (λ (t : ClassTable). IsSome (map.get t.classes name)) (sym c.self.view_is) c.requires.there in
-    let at = c.position-index.ensures ∙ ap (λ es. place_among after es name) c.deref.ensures.value in
-    let class = c.index_mut-class.result.now in
-    let here = c.index_mut-class.ensures.value ∙ ap (λ i. get_or classes i class) at in
-    let known = known_class before after grown classes c.self.invariant name there class here in
-    let P : List (Entry FieldBody) → Type 0 = λ fields. AreKnown after fields in
-    subst P (sym c.deref-2.ensures.value) (λ k d l. (known.fields k d l).name)
-
-pub insert-requires : goal.insert-requires
-insert-requires c =
-    let field_at = c.position-index-2.ensures ∙ ap (λ es. place_among c.add-2.new.self es c.args.field.now) c.deref-2.ensures.value in
-    omega (arith, field_at, place_among-le c.add-2.new.self c.index_mut-class.result.now.body.fields.items c.args.field.now)
-
-pub invariant_of-self-in_err-insert : goal.invariant_of-self-in_err-insert
-invariant_of-self-in_err-insert c =
-    let before = c.self.inside.names in
-    let after = c.add-2.new.self in
-    let grown = extends_transitive before c.add.new.self after c.in_ok-name.ensures.numbers c.in_ok-kind.ensures.numbers in
-    let classes = c.self.inside.classes.items in
-    let name = c.args.class.now in
-    let there = subst (λ (t : ClassTable). IsSome (map.get t.classes name)) (sym c.self.view_is) c.requires.there in
-    let at = c.position-index.ensures ∙ ap (λ es. place_among after es name) c.deref.ensures.value in
-    let class = c.index_mut-class.result.now in
-    let here = c.index_mut-class.ensures.value ∙ ap (λ i. get_or classes i class) at in
-    rw at (held-same before after grown classes c.self.invariant name there class here c.insert.new.self c.in_err-insert.ensures.items)
-
-pub returns-in_err-insert-clause-err : goal.returns-in_err-insert-clause-err
-returns-in_err-insert-clause-err c =
-    let before = c.self.inside.names in
-    let after = c.add-2.new.self in
-    let grown = extends_transitive before c.add.new.self after c.in_ok-name.ensures.numbers c.in_ok-kind.ensures.numbers in
-    let classes = c.self.inside.classes.items in
-    let name = c.args.class.now in
-    let there = subst (λ (t : ClassTable). IsSome (map.get t.classes name)) (sym c.self.view_is) c.requires.there in
-    let at = c.position-index.ensures ∙ ap (λ es. place_among after es name) c.deref.ensures.value in
-    let class = c.index_mut-class.result.now in
-    let here = c.index_mut-class.ensures.value ∙ ap (λ i. get_or classes i class) at in
-    rw at (on_err _ _ (classes-unchanged before after grown classes c.self.invariant name there class here c.insert.new.self c.in_err-insert.ensures.items ∙ ap (λ (t : ClassTable). t.classes) c.self.view_is))
-
-pub returns-in_err-insert-clause-err_places : goal.returns-in_err-insert-clause-err_places
-returns-in_err-insert-clause-err_places c =
-    let before = c.self.inside.names in
-    let after = c.add-2.new.self in
-    let grown = extends_transitive before c.add.new.self after c.in_ok-name.ensures.numbers c.in_ok-kind.ensures.numbers in
-    let classes = c.self.inside.classes.items in
-    let name = c.args.class.now in
-    let there = subst (λ (t : ClassTable). IsSome (map.get t.classes name)) (sym c.self.view_is) c.requires.there in
-    let at = c.position-index.ensures ∙ ap (λ es. place_among after es name) c.deref.ensures.value in
-    let class = c.index_mut-class.result.now in
-    let here = c.index_mut-class.ensures.value ∙ ap (λ i. get_or classes i class) at in
-    rw at (on_err _ _ (places-unchanged before after grown classes c.self.invariant name there class here c.insert.new.self c.in_err-insert.ensures.items ∙ ap (λ (t : ClassTable). t.places) c.self.view_is))
-
-pub invariant_of-self-2 : goal.invariant_of-self-2
-invariant_of-self-2 c =
-    let before = c.self.inside.names in
-    let after = c.add-2.new.self in
-    let grown = extends_transitive before c.add.new.self after c.in_ok-name.ensures.numbers c.in_ok-kind.ensures.numbers in
-    let classes = c.self.inside.classes.items in
-    let name = c.args.class.now in
-    let there = subst (λ (t : ClassTable). IsSome (map.get t.classes name)) (sym c.self.view_is) c.requires.there in
-    let at = c.position-index.ensures ∙ ap (λ es. place_among after es name) c.deref.ensures.value in
-    let class = c.index_mut-class.result.now in
-    let here = c.index_mut-class.ensures.value ∙ ap (λ i. get_or classes i class) at in
-    let entry : Entry FieldBody = record { name = c.in_ok-name.name; at = c.args.at; body = record { kind = c.in_ok-kind.kind; kind_at = c.args.kind_at } } in
-    let same = extends_reflexive after in
-    let is_field = text_of-name c.add.new.self after c.in_ok-kind.ensures.numbers c.in_ok-name.name.0 c.args.field.now c.in_ok-name.ensures.name in
-    let is_kind = text_of-name after after same c.in_ok-kind.kind.0 c.args.kind.now c.in_ok-kind.ensures.name in
-    let absent = subst (λ (t : ClassTable). IfSome (map.get t.classes name) (λ d. map.get d.fields c.args.field.now ≡ None)) (sym c.self.view_is) c.requires.absent in
-    let field_at = c.position-index-2.ensures ∙ ap (λ es. place_among after es c.args.field.now) c.deref-2.ensures.value in
-    let items = c.in_ok-insert.ensures.items ∙ ap (λ i. insert class.body.fields.items i entry) field_at in
-    let known_entry : IsField after entry =
+pub invariant_of-self : goal.invariant_of-self
+invariant_of-self c =
+    let t = c.spot-2.new.self in
+    let names = c.spot.new.self.names in
+    let old = c.index_mut.result.now in
+    let at = c.class_place-place.result in
+    let f : FieldEntry = record { spot = c.in_ok-spot.spot; kind = c.in_ok-kind.kind } in
+    let means = kept_spot names t.names f.spot c.spot-2.ensures.numbers c.in_ok-spot.ensures.known ∙ c.in_ok-spot.ensures.means in
+    let key : field_key t.names f ≡ c.args.field.now = ap (λ s. s.text) means in
+    let is = is_class t.names t.exprs t.classes.items t.held at c.args.class.now old c.class_place-place.ensures c.index_mut.ensures.value in
+    let before = c.spot-2.ensures.table ∙ c.spot.ensures.table in
+    let there = sym (ap (λ m. get m c.args.class.now) before) ∙ reads t.names t.exprs t.classes.items t.held at c.args.class.now old c.class_place-place.ensures c.index_mut.ensures.value in
+    let none = if_some (λ e. get e.fields c.args.field.now ≡ None) _ (plain_class t.names t.exprs old) there c.requires.absent in
+    let new : ClassEntry = record old { fields = c.insert_entry.new.entries } in
+    let known : IsFieldEntry t.names f = record { spot = known_later names t.names f.spot c.spot-2.ensures.numbers c.in_ok-spot.ensures.known; kind = c.in_ok-kind.ensures.known } in
+    let place = stands t.names t.exprs t.classes.items t.held at c.args.class.now old c.class_place-place.ensures c.index_mut.ensures.value in
     record {
-      name = known-name c.add.new.self after c.in_ok-kind.ensures.numbers c.in_ok-name.name.0 c.args.field.now c.in_ok-name.ensures.name;
-      kind = known-name after after same c.in_ok-kind.kind.0 c.args.kind.now c.in_ok-kind.ensures.name;
-    } in
-    rw at (held-added before after grown classes c.self.invariant name there class here c.insert.new.self entry c.args.field.now c.args.kind.now is_field is_kind absent items known_entry)
+      held = with_changed t.names t.exprs t.classes.items t.held at old new place refl
+          (either_way c.insert_entry.result c.insert_entry.ensures.ok c.insert_entry.ensures.err
+          (λ added. let more = more_fields t.names t.exprs old is added.0 f known added.1 in with_fields t.names t.exprs old new is refl refl _ added.2 refl more.0 more.1)
+          (λ same. with_fields t.names t.exprs old new is refl refl old.fields.items same refl is.fields is.rising_fields));
+    }
 
 pub returns-clause-added : goal.returns-clause-added
 returns-clause-added c =
-    let before = c.self.inside.names in
-    let after = c.add-2.new.self in
-    let grown = extends_transitive before c.add.new.self after c.in_ok-name.ensures.numbers c.in_ok-kind.ensures.numbers in
-    let classes = c.self.inside.classes.items in
-    let name = c.args.class.now in
-    let there = subst (λ (t : ClassTable). IsSome (map.get t.classes name)) (sym c.self.view_is) c.requires.there in
-    let at = c.position-index.ensures ∙ ap (λ es. place_among after es name) c.deref.ensures.value in
-    let class = c.index_mut-class.result.now in
-    let here = c.index_mut-class.ensures.value ∙ ap (λ i. get_or classes i class) at in
-    let entry : Entry FieldBody = record { name = c.in_ok-name.name; at = c.args.at; body = record { kind = c.in_ok-kind.kind; kind_at = c.args.kind_at } } in
-    let same = extends_reflexive after in
-    let is_field = text_of-name c.add.new.self after c.in_ok-kind.ensures.numbers c.in_ok-name.name.0 c.args.field.now c.in_ok-name.ensures.name in
-    let is_kind = text_of-name after after same c.in_ok-kind.kind.0 c.args.kind.now c.in_ok-kind.ensures.name in
-    let absent = subst (λ (t : ClassTable). IfSome (map.get t.classes name) (λ d. map.get d.fields c.args.field.now ≡ None)) (sym c.self.view_is) c.requires.absent in
-    let field_at = c.position-index-2.ensures ∙ ap (λ es. place_among after es c.args.field.now) c.deref-2.ensures.value in
-    let items = c.in_ok-insert.ensures.items ∙ ap (λ i. insert class.body.fields.items i entry) field_at in
-    rw (at, ← c.self.view_is) (classes-added before after grown classes c.self.invariant name there class here c.insert.new.self entry c.args.field.now c.args.kind.now is_field is_kind absent items)
+    let t = c.spot-2.new.self in
+    let names = c.spot.new.self.names in
+    let old = c.index_mut.result.now in
+    let at = c.class_place-place.result in
+    let f : FieldEntry = record { spot = c.in_ok-spot.spot; kind = c.in_ok-kind.kind } in
+    let means = kept_spot names t.names f.spot c.spot-2.ensures.numbers c.in_ok-spot.ensures.known ∙ c.in_ok-spot.ensures.means in
+    let key : field_key t.names f ≡ c.args.field.now = ap (λ s. s.text) means in
+    let is = is_class t.names t.exprs t.classes.items t.held at c.args.class.now old c.class_place-place.ensures c.index_mut.ensures.value in
+    let before = c.spot-2.ensures.table ∙ c.spot.ensures.table in
+    let there = sym (ap (λ m. get m c.args.class.now) before) ∙ reads t.names t.exprs t.classes.items t.held at c.args.class.now old c.class_place-place.ensures c.index_mut.ensures.value in
+    let none = if_some (λ e. get e.fields c.args.field.now ≡ None) _ (plain_class t.names t.exprs old) there c.requires.absent in
+    let new : ClassEntry = record old { fields = c.insert_entry.new.entries } in
+    let was = plain_class t.names t.exprs old in
+    let change = with_field c.args.field.now (record { at = c.args.at; kind = record { text = c.args.kind.now; at = c.args.kind_at } }) in
+    on_ok c.insert_entry.result c.insert_entry.ensures.ok
+    (λ added. map_with_changed t.names t.exprs t.classes.items t.held at c.args.class.now old new change c.class_place-place.ensures c.index_mut.ensures.value refl
+    (ap (λ fs. record was { fields = fs }) (ap (fields_of t.names) added.2
+    ∙ map_more_fields t.names t.exprs old is added.0 f (ap (get (fields_of t.names old.fields.items)) key ∙ none)
+    ∙ ap₂ (λ k x. finite.insert (fields_of t.names old.fields.items) k x) key (ap₂ (λ a kind. record { at = a; kind = kind }) (ap (λ s. s.at) means) c.in_ok-kind.ensures.means)))
+    ∙ ap (λ m. changed_at m c.args.class.now change) before)
 
-pub returns-clause-placed : goal.returns-clause-placed
-returns-clause-placed c =
-    let before = c.self.inside.names in
-    let after = c.add-2.new.self in
-    let grown = extends_transitive before c.add.new.self after c.in_ok-name.ensures.numbers c.in_ok-kind.ensures.numbers in
-    let classes = c.self.inside.classes.items in
-    let name = c.args.class.now in
-    let there = subst (λ (t : ClassTable). IsSome (map.get t.classes name)) (sym c.self.view_is) c.requires.there in
-    let at = c.position-index.ensures ∙ ap (λ es. place_among after es name) c.deref.ensures.value in
-    let class = c.index_mut-class.result.now in
-    let here = c.index_mut-class.ensures.value ∙ ap (λ i. get_or classes i class) at in
-    let entry : Entry FieldBody = record { name = c.in_ok-name.name; at = c.args.at; body = record { kind = c.in_ok-kind.kind; kind_at = c.args.kind_at } } in
-    let same = extends_reflexive after in
-    let is_field = text_of-name c.add.new.self after c.in_ok-kind.ensures.numbers c.in_ok-name.name.0 c.args.field.now c.in_ok-name.ensures.name in
-    let is_kind = text_of-name after after same c.in_ok-kind.kind.0 c.args.kind.now c.in_ok-kind.ensures.name in
-    let absent = subst (λ (t : ClassTable). IfSome (map.get t.classes name) (λ d. map.get d.fields c.args.field.now ≡ None)) (sym c.self.view_is) c.requires.absent in
-    let field_at = c.position-index-2.ensures ∙ ap (λ es. place_among after es c.args.field.now) c.deref-2.ensures.value in
-    let items = c.in_ok-insert.ensures.items ∙ ap (λ i. insert class.body.fields.items i entry) field_at in
-    rw (at, ← c.self.view_is) (places-added before after grown classes c.self.invariant name there class here c.insert.new.self entry c.args.field.now c.args.kind.now is_field is_kind absent items)
+pub returns-clause-err : goal.returns-clause-err
+returns-clause-err c =
+    let t = c.spot-2.new.self in
+    let names = c.spot.new.self.names in
+    let old = c.index_mut.result.now in
+    let at = c.class_place-place.result in
+    let f : FieldEntry = record { spot = c.in_ok-spot.spot; kind = c.in_ok-kind.kind } in
+    let means = kept_spot names t.names f.spot c.spot-2.ensures.numbers c.in_ok-spot.ensures.known ∙ c.in_ok-spot.ensures.means in
+    let key : field_key t.names f ≡ c.args.field.now = ap (λ s. s.text) means in
+    let is = is_class t.names t.exprs t.classes.items t.held at c.args.class.now old c.class_place-place.ensures c.index_mut.ensures.value in
+    let before = c.spot-2.ensures.table ∙ c.spot.ensures.table in
+    let there = sym (ap (λ m. get m c.args.class.now) before) ∙ reads t.names t.exprs t.classes.items t.held at c.args.class.now old c.class_place-place.ensures c.index_mut.ensures.value in
+    let none = if_some (λ e. get e.fields c.args.field.now ≡ None) _ (plain_class t.names t.exprs old) there c.requires.absent in
+    let new : ClassEntry = record old { fields = c.insert_entry.new.entries } in
+    let was = plain_class t.names t.exprs old in
+    on_err c.insert_entry.result c.insert_entry.ensures.err
+    (λ same. map_with_changed t.names t.exprs t.classes.items t.held at c.args.class.now old new (λ e. e) c.class_place-place.ensures c.index_mut.ensures.value refl
+    (ap (λ fs. record was { fields = fs }) (ap (fields_of t.names) same)) ∙ unchanged (classes_of t.names t.exprs t.classes.items) c.args.class.now _ (reads t.names t.exprs t.classes.items t.held at c.args.class.now old c.class_place-place.ensures c.index_mut.ensures.value) ∙ before)

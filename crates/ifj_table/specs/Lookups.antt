@@ -1,0 +1,43 @@
+-- What a search for a member finds.
+use Rattle.std.specs.Prelude.{◌≡◌, ◌<◌, ℕ, length, slice_get, Some}
+use Rattle.dj_names.specs.Texts.{Text}
+use Rattle.dj_calculus.specs.Subclasses.{NearestField, NearestMethod}
+use Rattle.dj_calculus.specs.Tables as calculus
+use Rattle.ifj_table.specs.Entries.{text_at, plain_field, plain_method}
+use Rattle.ifj_table.specs.Tables.{plain_table, table_names, table_nodes, table_classes, name_text}
+use Rattle.ifj_table.specs.declared.entry.FieldEntry.{FieldEntry}
+use Rattle.ifj_table.specs.declared.entry.MethodEntry.{MethodEntry}
+use Rattle.ifj_table.specs.declared.entry.ClassEntry.{ClassEntry}
+use Rattle.ifj_table.specs.declared.table.Table.{Table}
+use Rattle.ifj_table.specs.declared.lookups.Found.{Found}
+
+-- an entry of the table is the class of a name
+pub record IsClassOf (t : Table) (name : ℕ) (class : ClassEntry) : Type 0 where
+  pub known : name < length (table_names t)
+  pub number : ℕ
+  pub stands : slice_get (table_classes t) number ≡ Some class
+  pub named : text_at (table_names t) class.spot ≡ name_text t name
+
+-- the field of this name that the class has or inherits: its owner, and its number there
+pub record IsFoundField (t : Table) (class field : Text) (found : Found) : Type 0 where
+  pub owner : ClassEntry
+  pub is_owner : IsClassOf t found.owner.0 owner
+  pub entry : FieldEntry
+  pub stands : slice_get owner.fields.items found.place ≡ Some entry
+  pub named : text_at (table_names t) entry.spot ≡ field
+  pub nearest : NearestField (plain_table t) class field (name_text t found.owner.0) (plain_field (table_names t) entry)
+
+pub record IsFoundMethod (t : Table) (class method : Text) (found : Found) : Type 0 where
+  pub owner : ClassEntry
+  pub is_owner : IsClassOf t found.owner.0 owner
+  pub entry : MethodEntry
+  pub stands : slice_get owner.methods.items found.place ≡ Some entry
+  pub named : text_at (table_names t) entry.spot ≡ method
+  pub nearest : NearestMethod (plain_table t) class method (name_text t found.owner.0) (plain_method (table_names t) (table_nodes t) entry)
+
+-- the class neither has nor inherits one
+abbrev pub HasNoField : Table → Text → Text → Type 0
+HasNoField t class field = (owner : Text) (entry : calculus.FieldEntry) → ¬ (NearestField (plain_table t) class field owner entry)
+
+abbrev pub HasNoMethod : Table → Text → Text → Type 0
+HasNoMethod t class method = (owner : Text) (entry : calculus.MethodEntry) → ¬ (NearestMethod (plain_table t) class method owner entry)
