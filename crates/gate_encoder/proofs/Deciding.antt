@@ -7,7 +7,7 @@ use Rattle.std.proofs.lemmas.List.Elements.{Contains-append_right}
 use Rattle.std.proofs.lemmas.List.Folds.{list_any-append}
 use Rattle.gate_encoder.specs.Entries.{Literal, Entry, numbered, stated, all_of, any_of, equal_of, agrees, agree, value_of}
 use Rattle.gate_encoder.specs.Laws.{IsEquality, parts_of, own_keys, gate_key, is_gate, AreConsistent, are_in_order, is_free}
-use Rattle.gate_encoder.proofs.Saying.{list_all_same, list_any_same}
+use Rattle.gate_encoder.proofs.Saying.{list_all_same, list_any_same, one_of}
 
 -- the value that a gate's literals give
 gives : {K : Type 0} → (K → Bool) → Entry K (Literal K) → Bool
@@ -58,13 +58,6 @@ same_true false false e = refl
 beq-itself : (b : Bool) → beq b b ≡ true
 beq-itself true = refl
 beq-itself false = refl
-
-one_of : {K : Type 0} (eq : K → K → Bool) (q k : K) → list_any (eq q) (k ∷ []) ≡ true → eq q k ≡ true
-one_of eq q k there = by (eq q k) there
-  where
-    by : (b : Bool) → (b || false) ≡ true → b ≡ true
-    by true h = refl
-    by false h = absurd (true≢false (sym h))
 
 module _ {K : Type 0} (eq : K → K → Bool) (same : IsEquality eq) where
   -- a key that an entry owns, where the entry is a gate

@@ -10,3 +10,4 @@ pub mod Saying
 pub mod Deciding
 pub mod Renaming
 pub mod FormulaValues
+pub mod Callers

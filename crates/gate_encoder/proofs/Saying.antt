@@ -80,7 +80,7 @@ list_all_at test xs x all there = by xs all there.0 there.1 there.2
     by (y ∷ ys) h zero within is = ap test (sym is) ∙ (and_parts (test y) (list_all test ys) h).0
     by (y ∷ ys) h (suc k) within is = by ys (and_parts (test y) (list_all test ys) h).1 k (omega arith) is
 
-one_of : {K : Type 0} (eq : K → K → Bool) (q k : K) → list_any (eq q) (k ∷ []) ≡ true → eq q k ≡ true
+pub one_of : {K : Type 0} (eq : K → K → Bool) (q k : K) → list_any (eq q) (k ∷ []) ≡ true → eq q k ≡ true
 one_of eq q k there = by (eq q k) there
   where
     by : (b : Bool) → (b || false) ≡ true → b ≡ true

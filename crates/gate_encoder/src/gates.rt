@@ -1,12 +1,11 @@
 //! Named gates over a list of clauses.
 
-ghost use Rattle.std.specs.Prelude.{◌≡◌, ◌+◌, ◌-◌, ◌<◌, ◌≤◌, ◌^◌, true, All, IfSome, IfOk, OnOk, OnErr, IsNone, IsSome, IsTrue, ◌↔◌, length, is_some};
-ghost use Rattle.sat_clauses.specs.Literals.{IsLiteral};
+ghost use Rattle.std.specs.Prelude.{◌≡◌, ◌+◌, ◌<◌, ◌≤◌, ◌^◌, true, All, IfSome, IfOk, OnOk, OnErr, length, is_some};
+ghost use Rattle.std.specs.List.{position_or_len};
+ghost use Rattle.std.specs.Map.{keys_of};
 ghost use Rattle.gate_encoder.specs.Entries.{numbered, stated, all_of, any_of, equal_of};
 ghost use Rattle.gate_encoder.specs.Writing.{IsNumbered, nothing, has_number, literal, steps, write, gate_steps, after_steps, IsCut};
 ghost use Rattle.gate_encoder.specs.Appending.{clauses_of, literals_in};
-ghost use Rattle.std.specs.List.{position_or_len};
-ghost use Rattle.std.specs.Map.{keys_of};
 
 use crate::parts::{Parts, push_gate};
 use indexmap::IndexSet;
@@ -15,8 +14,9 @@ use std::alloc::{AllocError as NoMemory, Global};
 use std::hash::Hash;
 use std::marker::Model;
 
-/// Clauses under construction, in which keys have literals. Contracts see the keys in the order of their numbers, each with
-/// whether its gate is written, and the clauses.
+/// Clauses under construction, in which keys have literals. The first key has the variable 1, and each other one the next; a key
+/// without a gate is a variable that is free. Contracts see the keys in the order of their numbers, each with whether its gate is
+/// written, and the clauses.
 #[derive(Drop)]
 pub struct Gates<K: Eq + Hash + Drop> {
     keys: IndexSet<K>,
@@ -50,7 +50,7 @@ impl<K: Eq + Hash + Drop> Gates<K> {
         }
     }
 
-    /// The literal of a key, or `None` where the key has no number.
+    /// The positive literal of a key's variable, or `None` where the key has no number.
     pub fn lit(&self, key: &K) -> Option<Lit>
         ensures numbered { is_some result ≡ has_number K.eq self.now key.now }
         ensures literal { IfSome result (λ lit. lit ≡ literal K.eq self.now key.now) }
@@ -71,7 +71,7 @@ impl<K: Eq + Hash + Drop> Gates<K> {
         Ok(literal_at(place))
     }
 
-    /// States a clause. Without memory nothing changes.
+    /// States a clause over literals of keys. Without memory nothing changes.
     pub fn assert(&mut self, lits: &[Lit]) -> Result<(), NoMemory>
         requires { All (IsNumbered self.old) lits.now }
         ensures written { OnOk result (self.new ≡ write K.eq self.old (stated lits.now)) }
@@ -81,8 +81,9 @@ impl<K: Eq + Hash + Drop> Gates<K> {
         Ok(())
     }
 
-    /// Gives a key the gate that is true where all parts are, and gives the key's literal. A key keeps the number that it has,
-    /// and a gate that is written already isn't written again. After `NoMemory` only the first steps of that were taken.
+    /// Writes the gate of a key that is true where all parts are, and gives the key's literal. A key keeps the number that it has,
+    /// and another gets the next. Of a key whose gate is written already nothing is written. After `NoMemory` only the first
+    /// steps were taken: the number, and some of the clauses.
     pub fn and(&mut self, key: K, parts: &[Lit]) -> Result<Lit, NoMemory>
         requires { All (IsNumbered self.old) parts.now }
         ensures written { OnOk result (self.new ≡ write K.eq self.old (all_of key parts.now)) }
@@ -94,7 +95,7 @@ impl<K: Eq + Hash + Drop> Gates<K> {
         self.gate(key, Parts::All(parts))
     }
 
-    /// Gives a key the gate that is true where a part is, as `and` gives one.
+    /// Writes the gate of a key that is true where a part is, as `and` writes one.
     pub fn or(&mut self, key: K, parts: &[Lit]) -> Result<Lit, NoMemory>
         requires { All (IsNumbered self.old) parts.now }
         ensures written { OnOk result (self.new ≡ write K.eq self.old (any_of key parts.now)) }
@@ -106,7 +107,7 @@ impl<K: Eq + Hash + Drop> Gates<K> {
         self.gate(key, Parts::Any(parts))
     }
 
-    /// Gives a key the gate that is true where two literals have one value, as `and` gives one.
+    /// Writes the gate of a key that is true where two literals have one value, as `and` writes one.
     pub fn equal(&mut self, key: K, left: Lit, right: Lit) -> Result<Lit, NoMemory>
         requires left { IsNumbered self.old left }
         requires right { IsNumbered self.old right }
@@ -124,7 +125,7 @@ impl<K: Eq + Hash + Drop> Gates<K> {
         *self.written.allocator()
     }
 
-    // Gives a key a gate.
+    // Writes a key's gate.
     fn gate(&mut self, key: K, parts: Parts) -> Result<Lit, NoMemory>
         requires { All (IsNumbered self.old) (literals_in parts) }
         ensures written { OnOk result (self.new ≡ after_steps K.eq self.old (gate_steps K.eq self.old key (clauses_of (literal K.eq self.old key) parts.entry))) }
