@@ -6,7 +6,7 @@ ghost use Rattle.dj_calculus.specs.Contents.{class_name};
 ghost use Rattle.dj_calculus.specs.FaultPlaces.{FaultStands, Repeats};
 ghost use Rattle.dj_faults.specs.LeastPlace.{IsLeastPlace, Among, first_place};
 ghost use Rattle.dj_faults.specs.Numbers.{IsSound};
-ghost use Rattle.dj_faults.specs.Inside.{Inside, RepeatedOperation, RepeatedMember, RepeatedParameter, line_fault, InMethod, InModified, InMember, Twice, InMethods, InOperation, ClassTwice, InOperations};
+ghost use Rattle.dj_faults.specs.Inside.{Inside, RepeatedOperation, RepeatedMember, RepeatedParameter, line_fault, InMethod, InModified, InMember, Twice, InMethods, InOperation, InOperations};
 ghost use Rattle.dj_faults.specs.Places.{place_of, AreLeast};
 
 use crate::least::earlier;

@@ -1,20 +1,19 @@
 -- The token at a place is the same in both dialects.
-use Rattle.std.proofs.Common.{eq-eqb, ◌≡◌, ℕ, zero, suc, ◌+◌, ◌-◌, ◌≤◌, ◌<◌, ◌⊎◌, inl, inr, Bool, true, false, not, ◌&&◌, ◌||◌, ◌==◌, Option, Some, None, Result, Ok, Err, IsOk, MatchResult, List, [], ◌∷◌, ◌++◌, length, take, drop, get_or, refl, sym, ap, subst, ◌∙◌, arith, append_assoc, length-append}
-use Rattle.std.specs.Prelude.{codes, slice_range, encode_utf8_all, Contains}
-use Rattle.std.specs.Option.{MatchOption}
+use Rattle.std.proofs.Common.{eq-eqb, ◌≡◌, ℕ, zero, suc, ◌+◌, ◌-◌, ◌≤◌, Bool, true, false, not, ◌||◌, ◌==◌, Option, Some, None, Result, Ok, Err, IsOk, MatchResult, List, [], ◌∷◌, ◌++◌, length, take, drop, get_or, refl, sym, ap, subst, ◌∙◌, arith, append_assoc, length-append}
+use Rattle.std.specs.Prelude.{slice_range, encode_utf8_all, Contains}
 use Rattle.std.specs.List.{AllPass, list_all}
 use Rattle.std.specs.Str.{IsUtf8, chars}
 use Rattle.std.proofs.Math.Utf8.{scalars, encode}
 use Rattle.std.proofs.Math.Seq.{take-append_seam, drop-append_seam}
 use Rattle.std.proofs.lemmas.Bool.{and_parts, eqb-true, false≢true}
 use Rattle.std.proofs.lemmas.List.Sums.{AllPass-from_list_all}
-use Rattle.std.proofs.lemmas.List.Elements.{All-contains, All-head, All-tail, Contains-append_left}
+use Rattle.std.proofs.lemmas.List.Elements.{All-contains}
 use Rattle.std.proofs.lemmas.Grind.{common_steps}
-use Rattle.std.proofs.lemmas.Str.{chars-nil, chars-encodes, scalars-chars, encodes-chars, encodes-append, length-encode, len_utf8_bounds, length-le-encodes}
+use Rattle.std.proofs.lemmas.Str.{chars-nil, chars-encodes, scalars-chars, encodes-chars, encodes-append, length-le-encodes}
 use Rattle.unicode_ident.specs.Ident.{is_xid_start, is_xid_continue}
 use Rattle.unicode_ident.proofs.Computing.{unicode_ident}
-use Rattle.dj_lexer.specs.Alphabet.{byte_len, is_white_space, starts_word, continues_word, symbols}
-use Rattle.dj_lexer.specs.Tokens.{FirstFails, Piece, white_space, line_comment, block_comment, word, symbol, TokensFrom, TokenList}
+use Rattle.dj_lexer.specs.Alphabet.{byte_len, continues_word, symbols}
+use Rattle.dj_lexer.specs.Tokens.{FirstFails, Piece, word, symbol, TokensFrom}
 use Rattle.dj_lexer.specs.Tokens as tokens
 use Rattle.dj_lexer.specs.TokensAt.{IsTokenAt, BeginsWithToken, BeginsNoToken}
 use Rattle.dj_lexer.specs.Pieces.{HasPiece, HasBadCharacter, HasOpenComment}

@@ -1,5 +1,5 @@
 //! Tokens, and why a text has none.
-ghost use Rattle.std.specs.Prelude.{◌≡◌, ℕ, List};
+ghost use Rattle.std.specs.Prelude.{◌≡◌};
 ghost use Rattle.dj_lexer.specs.Symbols.{symbol_of};
 
 use std::marker::Model;

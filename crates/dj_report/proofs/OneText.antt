@@ -1,5 +1,5 @@
 -- A place has one column, and so a refusal has one text.
-use Rattle.std.proofs.Common.{◌≡◌, ◌<◌, ℕ, ◌+◌, ◌-◌, ◌++◌, true, false, List, length, map, get_or, subst, sym, ap, refl, ◌∙◌, codes, arith, Contains}
+use Rattle.std.proofs.Common.{◌≡◌, ◌<◌, ℕ, ◌+◌, ◌-◌, ◌++◌, true, false, List, sym, ap, refl, ◌∙◌, codes, arith}
 use Rattle.std.specs.Fmt.{decimal}
 use Rattle.dj_names.specs.Texts.{Text}
 use Rattle.dj_names.specs.Place.{ends_line, line_ends_before, IsLineStart, characters_between, IsColumn}

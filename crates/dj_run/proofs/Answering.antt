@@ -3,8 +3,8 @@ use Rattle.std.proofs.Common.{◌≡◌, ℕ, ◌+◌, ◌<◌, List, length, Op
 use Rattle.std.proofs.lemmas.List.{length-replicate}
 use Rattle.std.specs.Option.{ForSome}
 use Rattle.dj_names.specs.Texts.{Text}
-use Rattle.dj_run.specs.Commands.{Command, check, generate, generate_in_order, generation, verify, explain, typecheck, sample, try, IsUnbuilt}
-use Rattle.dj_run.specs.Answers.{Answer, not_built, OfFile, Generates, Answers}
+use Rattle.dj_run.specs.Commands.{Command, check, generate, generate_in_order, verify, explain, typecheck, sample, try, IsUnbuilt}
+use Rattle.dj_run.specs.Answers.{Answer, not_built, Answers}
 
 pub unbuilt_answer : (left : Text → Option (List ℕ)) (command : Option Command) → IsUnbuilt command → Answers left command not_built
 unbuilt_answer left None h = absurd h
@@ -16,11 +16,6 @@ unbuilt_answer left (Some (explain x)) h = refl
 unbuilt_answer left (Some (typecheck x)) h = refl
 unbuilt_answer left (Some (sample x)) h = refl
 unbuilt_answer left (Some (try x)) h = refl
-
-pub generated : (left : Text → Option (List ℕ)) (file config : Text) (order : Option Text) (answer : Answer) → OfFile left file (Generates config order) answer
-    → Answers left (Some (generation file config order)) answer
-generated left file config None answer h = h
-generated left file config (Some order) answer h = h
 
 -- a file that tells nothing may hold more bytes than any number
 pub too_many : (n : ℕ) (left : Option (List ℕ)) → ForSome left (λ all. n < length all) → (bytes : List ℕ) × ForSome left (λ all. bytes ≡ all) × (n < length bytes)

@@ -5,7 +5,7 @@ use Rattle.dj_tree.specs.Trees.{Source}
 use Rattle.dj_calculus.specs.Configurations.{Configuration}
 use Rattle.dj_plain.specs.Plain.{is_plain}
 use Rattle.dj_run.specs.Commands.{Command, check, generate, generate_in_order, verify, explain, typecheck, sample, try}
-use Rattle.dj_run.specs.Answers.{Answer, usage, not_built, done, OrderAnswer, in_any_order, in_order, order_refused, LineAnswer, configured, configuration_refused, OfLine, of_line, file_refused, Generates, Answers}
+use Rattle.dj_run.specs.Answers.{Answer, usage, not_built, done, OrderAnswer, in_any_order, in_order, order_refused, LineAnswer, configured, configuration_refused, of_line, file_refused, Generates, Answers}
 use Rattle.dj_run.specs.Laws.{statuses}
 
 -- a status of the list, but not that of words that are no command

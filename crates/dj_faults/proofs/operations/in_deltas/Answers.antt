@@ -2,7 +2,6 @@ use Rattle.std.proofs.Common.{◌≡◌, ◌≤◌, List, length, Some, slice_ge
 use Rattle.std.proofs.lemmas.Option.{slice_get_read}
 use Rattle.dj_tree.specs.Plain.{plain_operation}
 use Rattle.dj_tree.specs.declared.declarations.DeltaDecl.{DeltaDecl}
-use Rattle.dj_faults.specs.LeastPlace.{Among}
 use Rattle.dj_faults.specs.Inside.{InOperations}
 use Rattle.dj_faults.specs.Places.{AreLeast}
 use Rattle.dj_faults.proofs.InsidePlaces.{each_next, each_all, nowhere_among}

@@ -3,7 +3,7 @@ use Rattle.std.specs.String.{string_bytes}
 use Rattle.dj_run.specs.Commands.{command_of}
 use Rattle.dj_run.specs.Answers.{Answers, usage}
 use Rattle.dj_run.specs.Outcomes.{Reads}
-use Rattle.dj_run.proofs.Answering.{unbuilt_answer, generated}
+use Rattle.dj_run.proofs.Answering.{unbuilt_answer}
 use Rattle.dj_run.proofs.answer.answer.Goals as goal
 
 pub returns-in-None-clause-defined : goal.returns-in-None-clause-defined
