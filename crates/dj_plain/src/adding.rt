@@ -11,8 +11,8 @@ ghost use Rattle.dj_plain.specs.Views.{class_added};
 
 use crate::texts::{parent_text, text_of};
 use dj_tree::{ClassDecl, ClassOp, Source};
-use thin_table::Table;
 use std::alloc::AllocError as NoMemory;
+use thin_table::Table;
 
 // Puts the classes that operations add into a table.
 pub(crate) fn add_operations(

@@ -12,8 +12,8 @@ ghost use Rattle.dj_plain.specs.Views.{class_added};
 use crate::adding::add_operations;
 use dj_line::{Config, Line};
 use dj_tree::{ClassOp, Source};
-use thin_table::Table;
 use std::alloc::{AllocError as NoMemory, Global};
+use thin_table::Table;
 
 /// The canonical Java text of a plain line's product: of exactly the classes that the active deltas of
 /// the configuration add (`product_of`).

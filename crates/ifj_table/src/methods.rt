@@ -177,11 +177,7 @@ impl Table {
 }
 
 // Declares the method of its name again.
-fn redeclare(
-    names: &Names,
-    methods: &mut Vec<MethodEntry>,
-    own: OwnMethod,
-) -> Result<(), NoMemory>
+fn redeclare(names: &Names, methods: &mut Vec<MethodEntry>, own: OwnMethod) -> Result<(), NoMemory>
     requires known { All (λ m. IsKnown names.now m.spot) methods.old.items }
     requires rising { AreRising (map (λ m. text_at names.now m.spot) methods.old.items) }
     requires spot { IsKnown names.now own.spot }

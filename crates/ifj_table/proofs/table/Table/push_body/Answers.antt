@@ -48,11 +48,11 @@ invariant_of-self c =
     let method_stands = if_some (λ e. IsSome (get e.methods m.name.text)) _ (plain_class t.names t.exprs old) there c.requires.method_there in
     let entry = some_value (get (methods_of t.names t.exprs old.methods.items) m.name.text) method_stands in
     let same = if_some (λ e. IsTrue (same_signature e.signature (signature_of m))) (get (methods_of t.names t.exprs old.methods.items) m.name.text) entry.0 entry.1
-        (if_some (λ e. IfSome (get e.methods m.name.text) (λ x. IsTrue (same_signature x.signature (signature_of m)))) _ (plain_class t.names t.exprs old) there c.requires.same) in
+    (if_some (λ e. IfSome (get e.methods m.name.text) (λ x. IsTrue (same_signature x.signature (signature_of m)))) _ (plain_class t.names t.exprs old) there c.requires.same) in
     let again = λ (after : IsRedeclaredAmong old.methods.items (text_at t.names own.spot) t.names own.result own.spot own.types own.body c.redeclare.new.methods.items).
-        redeclared t.names t.exprs old is c.redeclare.new.methods.items m.name.text own.result own.spot own.types own.body m entry.0
-        (subst (λ k. IsRedeclaredAmong old.methods.items k t.names own.result own.spot own.types own.body c.redeclare.new.methods.items) key after)
-        says.own_result says.own_spot says.own_types says.own_body key entry.1 same says.spot says.result_type says.types says.body in
+    redeclared t.names t.exprs old is c.redeclare.new.methods.items m.name.text own.result own.spot own.types own.body m entry.0
+    (subst (λ k. IsRedeclaredAmong old.methods.items k t.names own.result own.spot own.types own.body c.redeclare.new.methods.items) key after)
+    says.own_result says.own_spot says.own_types says.own_body key entry.1 same says.spot says.result_type says.types says.body in
     let new : ClassEntry = record old { methods = c.redeclare.new.methods } in
     let was = plain_class t.names t.exprs old in
     let place = stands t.names t.exprs t.classes.items t.held at c.args.class.now old c.class_place-place.ensures c.index_mut.ensures.value in
@@ -78,11 +78,11 @@ returns-clause-pushed c =
     let method_stands = if_some (λ e. IsSome (get e.methods m.name.text)) _ (plain_class t.names t.exprs old) there c.requires.method_there in
     let entry = some_value (get (methods_of t.names t.exprs old.methods.items) m.name.text) method_stands in
     let same = if_some (λ e. IsTrue (same_signature e.signature (signature_of m))) (get (methods_of t.names t.exprs old.methods.items) m.name.text) entry.0 entry.1
-        (if_some (λ e. IfSome (get e.methods m.name.text) (λ x. IsTrue (same_signature x.signature (signature_of m)))) _ (plain_class t.names t.exprs old) there c.requires.same) in
+    (if_some (λ e. IfSome (get e.methods m.name.text) (λ x. IsTrue (same_signature x.signature (signature_of m)))) _ (plain_class t.names t.exprs old) there c.requires.same) in
     let again = λ (after : IsRedeclaredAmong old.methods.items (text_at t.names own.spot) t.names own.result own.spot own.types own.body c.redeclare.new.methods.items).
-        redeclared t.names t.exprs old is c.redeclare.new.methods.items m.name.text own.result own.spot own.types own.body m entry.0
-        (subst (λ k. IsRedeclaredAmong old.methods.items k t.names own.result own.spot own.types own.body c.redeclare.new.methods.items) key after)
-        says.own_result says.own_spot says.own_types says.own_body key entry.1 same says.spot says.result_type says.types says.body in
+    redeclared t.names t.exprs old is c.redeclare.new.methods.items m.name.text own.result own.spot own.types own.body m entry.0
+    (subst (λ k. IsRedeclaredAmong old.methods.items k t.names own.result own.spot own.types own.body c.redeclare.new.methods.items) key after)
+    says.own_result says.own_spot says.own_types says.own_body key entry.1 same says.spot says.result_type says.types says.body in
     let new : ClassEntry = record old { methods = c.redeclare.new.methods } in
     let was = plain_class t.names t.exprs old in
     let change = with_body m in
@@ -106,11 +106,11 @@ returns-clause-err c =
     let method_stands = if_some (λ e. IsSome (get e.methods m.name.text)) _ (plain_class t.names t.exprs old) there c.requires.method_there in
     let entry = some_value (get (methods_of t.names t.exprs old.methods.items) m.name.text) method_stands in
     let same = if_some (λ e. IsTrue (same_signature e.signature (signature_of m))) (get (methods_of t.names t.exprs old.methods.items) m.name.text) entry.0 entry.1
-        (if_some (λ e. IfSome (get e.methods m.name.text) (λ x. IsTrue (same_signature x.signature (signature_of m)))) _ (plain_class t.names t.exprs old) there c.requires.same) in
+    (if_some (λ e. IfSome (get e.methods m.name.text) (λ x. IsTrue (same_signature x.signature (signature_of m)))) _ (plain_class t.names t.exprs old) there c.requires.same) in
     let again = λ (after : IsRedeclaredAmong old.methods.items (text_at t.names own.spot) t.names own.result own.spot own.types own.body c.redeclare.new.methods.items).
-        redeclared t.names t.exprs old is c.redeclare.new.methods.items m.name.text own.result own.spot own.types own.body m entry.0
-        (subst (λ k. IsRedeclaredAmong old.methods.items k t.names own.result own.spot own.types own.body c.redeclare.new.methods.items) key after)
-        says.own_result says.own_spot says.own_types says.own_body key entry.1 same says.spot says.result_type says.types says.body in
+    redeclared t.names t.exprs old is c.redeclare.new.methods.items m.name.text own.result own.spot own.types own.body m entry.0
+    (subst (λ k. IsRedeclaredAmong old.methods.items k t.names own.result own.spot own.types own.body c.redeclare.new.methods.items) key after)
+    says.own_result says.own_spot says.own_types says.own_body key entry.1 same says.spot says.result_type says.types says.body in
     let new : ClassEntry = record old { methods = c.redeclare.new.methods } in
     let was = plain_class t.names t.exprs old in
     on_err c.redeclare.result c.redeclare.ensures.err
