@@ -263,12 +263,6 @@ fn lines_are_generated_or_refused(rt: HostRuntime) -> Result<(), Fail> {
             Status::FILE_REFUSED,
         ),
         (
-            "line L {\r features ß;\n\nvalid true; x",
-            "generate f -",
-            "refused at 4:13: syntax\n",
-            Status::FILE_REFUSED,
-        ),
-        (
             "(((((((((((((((((((((((((((((((((((((((((((((((((((((((((((((((((((((((((((((((((((((((((((((((((((((((((((((((((((((((((((((((((((((((((((((((((((((((((((((((((((((((((((((((((((((((((((((((((((((((((((((((((((((((((((((((((((((((((((((((((((((((((((((((((",
             "generate f -",
             "refused at 1:257: more than 256 brackets open\n",
@@ -323,6 +317,10 @@ fn words_and_bytes_define_the_answer(rt: HostRuntime) -> Result<(), Fail> {
     let (status, sink) = answer(rt.alloc(), b"line \xff", "generate f -")?;
     assert_eq!(rt; status, Status::FILE_REFUSED);
     assert_eq!(rt; sink.bytes(), b"refused at 1:6: not UTF-8\n".as_slice());
+    let place = b"line L {\r features \xc3\x9f;\n\nvalid true; x";
+    let (status, sink) = answer(rt.alloc(), place, "generate f -")?;
+    assert_eq!(rt; status, Status::FILE_REFUSED);
+    assert_eq!(rt; sink.bytes(), b"refused at 4:13: syntax\n".as_slice());
     let long = vec![in rt.alloc(); b' '; 4_194_305]?;
     let (status, sink) = answer(rt.alloc(), &long, "generate f -")?;
     assert_eq!(rt; status, Status::FILE_REFUSED);

@@ -226,6 +226,16 @@ fn texts_are_refused_at_places(rt: HostRuntime) -> Result<(), Fail> {
             "class A { A m() { return (x.f) = y; } }",
             Some(31),
         ),
+    ];
+    for (dialect, text, place) in rows {
+        assert_eq!(rt; place_of(rt.alloc(), text, dialect)?, place, "{text}");
+    }
+    Ok(())
+}
+
+#[test]
+fn declarations_are_refused_at_places(rt: HostRuntime) -> Result<(), Fail> {
+    let rows = [
         (Dialect::Line, "line l { features f,; valid f; }", Some(20)),
         (Dialect::Line, "line l { features f g; valid f; }", Some(20)),
         (Dialect::Line, "line l { features f; valid f }", Some(29)),
@@ -305,6 +315,16 @@ fn texts_are_refused_at_places(rt: HostRuntime) -> Result<(), Fail> {
         (Dialect::Java, "class A extends { }", Some(16)),
         (Dialect::Java, "class A { I x;", Some(14)),
         (Dialect::Java, "class A { } x", Some(12)),
+    ];
+    for (dialect, text, place) in rows {
+        assert_eq!(rt; place_of(rt.alloc(), text, dialect)?, place, "{text}");
+    }
+    Ok(())
+}
+
+#[test]
+fn expressions_are_refused_at_places(rt: HostRuntime) -> Result<(), Fail> {
+    let rows = [
         (
             Dialect::Java,
             "class A { A m() { return x.f = y = z; } }",
