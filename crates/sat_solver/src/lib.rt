@@ -5,6 +5,7 @@ mod analysis;
 mod entry;
 mod laws;
 mod lesson;
+mod pair;
 mod propagate;
 mod search;
 mod solver;

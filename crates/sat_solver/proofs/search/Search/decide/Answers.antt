@@ -26,9 +26,9 @@ returns-clause-search c =
     let vars : now.vars ≡ old.trail.vars = opened_or_same (λ t. t.vars ≡ old.trail.vars) old.trail now c.decide.result c.decide.ensures.opened c.decide.ensures.unchanged refl (λ lit. refl) in
     record {
       trail = c.decide.ensures.trail;
-      reasons = opened_or_same (λ t. AllReasoned old.store.clauses t.entries) old.trail now c.decide.result c.decide.ensures.opened c.decide.ensures.unchanged c.requires.reasons (λ lit. reasons_push old.store.clauses old.trail.entries (decision old.trail lit) c.requires.reasons (λ some. absurd (false≢true some)));
-      paired = vars ∙ c.requires.paired;
-      queue = subst (λ n. IsQueue n old.queue) (sym vars) c.requires.queue;
+      reasons = opened_or_same (λ t. AllReasoned old.store.clauses t.entries) old.trail now c.decide.result c.decide.ensures.opened c.decide.ensures.unchanged c.requires.search.reasons (λ lit. reasons_push old.store.clauses old.trail.entries (decision old.trail lit) c.requires.search.reasons (λ some. absurd (false≢true some)));
+      paired = c.decide.ensures.paired old.store c.requires.search.paired c.requires.worked;
+      queue = subst (λ n. IsQueue n old.queue) (sym vars) c.requires.search.queue;
     }
 
 pub returns-clause-farther : goal.returns-clause-farther

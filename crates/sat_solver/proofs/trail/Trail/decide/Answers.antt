@@ -1,6 +1,10 @@
-use Rattle.std.proofs.Common.{◌≤◌, ◌-◌, None, All, IsSome, get_or, refl, sym, subst, ap, ◌∙◌}
+use Rattle.std.proofs.Common.{◌≤◌, ◌-◌, ◌+◌, false, inl, None, All, IsSome, get_or, refl, sym, subst, ap, ◌∙◌}
 use Rattle.std.proofs.lemmas.Bool.{true≢false}
 use Rattle.sat_solver.specs.Entries.{values_of}
+use Rattle.sat_solver.specs.declared.entry.Entry.{Entry}
+use Rattle.sat_solver.specs.Trails.{IsTrail}
+use Rattle.sat_solver.specs.Pairing.{Paired}
+use Rattle.sat_solver.proofs.PairingLemmas.{paired_push}
 use Rattle.sat_solver.proofs.EntryLemmas.{values_at}
 use Rattle.sat_solver.proofs.QueueLemmas.{queue_length, last_within, all_valued, queue_valued}
 use Rattle.sat_solver.proofs.trail.Trail.decide.Goals as goal
@@ -34,3 +38,8 @@ pub returns-clause-none : goal.returns-clause-none
 returns-clause-none c =
     let vars = c.args.self.now.vars in
     (λ e. absurd (true≢false e), λ all. c.in_ok-var.ensures.none.1 (queue_valued vars c.args.queue.now c.requires c.values.result.now c.values.ensures.length (subst (All IsSome) (sym c.values.ensures.values) all)))
+
+pub returns-clause-paired : goal.returns-clause-paired
+returns-clause-paired c = λ store paired all.
+    let entry : Entry = record { lit = record { var = c.in_ok-var.var; positive = false }; level = c.push.inside.level + 1; reason = None } in
+    subst (λ t. Paired t store) (sym c.push-2.ensures.pushed) (paired_push c.args.self.now store entry paired (subst IsTrail c.push-2.ensures.pushed c.push-2.ensures.trail) (inl all))
