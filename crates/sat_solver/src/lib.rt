@@ -7,6 +7,7 @@ mod laws;
 mod lesson;
 mod pair;
 mod propagate;
+mod question;
 mod search;
 mod solver;
 mod store;

@@ -10,6 +10,7 @@ ghost use Rattle.sat_solver.specs.Pairing.{Learnt};
 
 use crate::analysis::analyze;
 use crate::lesson::{Assertion, Lesson, Making};
+use crate::question::Question;
 use crate::store::Store;
 use crate::trail::Trail;
 use sat_clauses::{Clauses, Derivation, Lit, Step};
@@ -25,8 +26,8 @@ pub(crate) enum Turn {
     Derives,
 }
 
-/// The clauses, the trail, the order of decisions, the steps that made the learnt clauses, and the clause in the
-/// making, which is kept from one conflict to the next.
+/// The clauses, the trail, the order of decisions, the steps that made the learnt clauses, the clause in the
+/// making, which is kept from one conflict to the next, and the last given clause as the question.
 #[derive(Drop)]
 pub(crate) struct Search {
     pub(crate) store: Store,
@@ -34,6 +35,7 @@ pub(crate) struct Search {
     pub(crate) queue: DecisionQueue,
     pub(crate) steps: Vec<Step>,
     making: Making,
+    question: Question,
 }
 
 impl Search {
@@ -49,12 +51,17 @@ impl Search {
     {
         let store = Store::new(alloc, clauses)?;
         let vars = store.vars();
+        let last = store.count().saturating_sub(1);
         Ok(Search {
             trail: Trail::new(alloc, vars)?,
             queue: DecisionQueue::new(alloc, vars)?,
             store,
             steps: Vec::new(alloc),
             making: Making::new(alloc),
+            question: Question {
+                clause: last,
+                at: 0,
+            },
         })
     }
 
@@ -93,8 +100,27 @@ impl Search {
         self.trail.propagate(&mut self.store)
     }
 
-    /// Decides a variable. The answer is `false` where all have values.
+    /// Decides a variable, of the question while it is open. The answer is `false` where all have values.
     fn decide(&mut self) -> bool
+        requires search { IsSearch self.old }
+        requires worked { self.old.trail.worked ≡ length self.old.trail.entries }
+        ensures search { IsSearch self.new }
+        ensures farther { IsTrue result → weight_of self.old < weight_of self.new }
+        ensures valued { result ≡ false → All IsSome (values_of self.old.trail.vars self.old.trail.entries) }
+        ensures same { result ≡ false → self.new.trail ≡ self.old.trail }
+        ensures vars { self.new.trail.vars ≡ self.old.trail.vars }
+        ensures clauses { self.new.store.clauses ≡ self.old.store.clauses }
+        ensures steps { self.new.steps ≡ self.old.steps }
+    {
+        let Some(lit) = self.question.open(&self.trail, &self.store) else {
+            return self.decide_last();
+        };
+        self.trail.decide_literal(lit);
+        true
+    }
+
+    /// Decides the last free variable of the queue. The answer is `false` where all have values.
+    fn decide_last(&mut self) -> bool
         requires search { IsSearch self.old }
         requires worked { self.old.trail.worked ≡ length self.old.trail.entries }
         ensures search { IsSearch self.new }

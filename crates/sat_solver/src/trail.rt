@@ -158,12 +158,23 @@ impl Trail {
             var,
             positive: false,
         };
+        self.decide_literal(lit);
+        Some(lit)
+    }
+
+    /// Opens a level with a free literal, which becomes true.
+    pub fn decide_literal(&mut self, lit: Lit)
+        requires within { (1 ≤ lit.var) × (lit.var ≤ self.old.vars) }
+        requires free { IsFreeIn self.old.entries lit }
+        ensures opened { self.new ≡ with_entry self.old (record { lit = lit; level = self.old.level + 1; reason = None }) }
+        ensures trail { IsTrail self.new }
+        ensures paired { (store : StoreState) → Paired self.old store → self.old.worked ≡ length self.old.entries → Paired self.new store }
+    {
         self.push(Entry {
             lit,
             level: self.level + 1,
             reason: None,
         });
-        Some(lit)
     }
 
     /// Drops the literals of all levels above a level, which is then the present one.

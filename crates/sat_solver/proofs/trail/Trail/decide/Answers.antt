@@ -1,10 +1,6 @@
-use Rattle.std.proofs.Common.{◌≤◌, ◌-◌, ◌+◌, false, inl, None, All, IsSome, get_or, refl, sym, subst, ap, ◌∙◌}
+use Rattle.std.proofs.Common.{◌≤◌, ◌-◌, None, All, IsSome, get_or, refl, sym, subst, ap, ◌∙◌}
 use Rattle.std.proofs.lemmas.Bool.{true≢false}
 use Rattle.sat_solver.specs.Entries.{values_of}
-use Rattle.sat_solver.specs.declared.entry.Entry.{Entry}
-use Rattle.sat_solver.specs.Trails.{IsTrail}
-use Rattle.sat_solver.specs.Pairing.{Paired}
-use Rattle.sat_solver.proofs.PairingLemmas.{paired_push}
 use Rattle.sat_solver.proofs.EntryLemmas.{values_at}
 use Rattle.sat_solver.proofs.QueueLemmas.{queue_length, last_within, all_valued, queue_valued}
 use Rattle.sat_solver.proofs.trail.Trail.decide.Goals as goal
@@ -23,15 +19,15 @@ returns-in_err-var-clause-none c =
 within : (c : In_ok-var) → (1 ≤ c.in_ok-var.var) × (c.in_ok-var.var ≤ c.args.self.now.vars)
 within c = last_within c.args.self.now.vars c.args.queue.now c.requires c.values.result.now c.in_ok-var.var c.in_ok-var.ensures.last
 
-pub push-requires-clause-within : goal.push-requires-clause-within
-push-requires-clause-within c = within (goal.at.push-requires-clause-within c).In_ok-var
+pub decide_literal-requires-clause-within : goal.decide_literal-requires-clause-within
+decide_literal-requires-clause-within c = within (goal.at.decide_literal-requires-clause-within c).In_ok-var
 
-pub push-requires-clause-free : goal.push-requires-clause-free
-push-requires-clause-free c =
+pub decide_literal-requires-clause-free : goal.decide_literal-requires-clause-free
+decide_literal-requires-clause-free c =
     let vars = c.args.self.now.vars in
     let entries = c.args.self.now.entries in
     let var = c.in_ok-var.var in
-    let h = within (goal.at.push-requires-clause-free c).In_ok-var in
+    let h = within (goal.at.decide_literal-requires-clause-free c).In_ok-var in
     sym (values_at vars entries var h.0 h.1) ∙ ap (λ vs. get_or vs (var - 1) None) (sym c.values.ensures.values) ∙ c.in_ok-var.ensures.last.free
 
 pub returns-clause-none : goal.returns-clause-none
@@ -40,6 +36,4 @@ returns-clause-none c =
     (λ e. absurd (true≢false e), λ all. c.in_ok-var.ensures.none.1 (queue_valued vars c.args.queue.now c.requires c.values.result.now c.values.ensures.length (subst (All IsSome) (sym c.values.ensures.values) all)))
 
 pub returns-clause-paired : goal.returns-clause-paired
-returns-clause-paired c = λ store paired all.
-    let entry : Entry = record { lit = record { var = c.in_ok-var.var; positive = false }; level = c.push.inside.level + 1; reason = None } in
-    subst (λ t. Paired t store) (sym c.push-2.ensures.pushed) (paired_push c.args.self.now store entry paired (subst IsTrail c.push-2.ensures.pushed c.push-2.ensures.trail) (inl all))
+returns-clause-paired c = c.decide_literal.ensures.paired
