@@ -1,16 +1,18 @@
 -- Clauses under a trail: what is false, unit or settled.
-use Rattle.std.proofs.Common.{◌≡◌, ℕ, ◌<◌, Bool, true, false, not, ◌||◌, List, [], ◌∷◌, ◌++◌, Option, Some, None, IsTrue, MatchOption, All, length, get_or, refl, sym, subst, ap, ◌∙◌, ◌⊎◌, inl, inr}
+use Rattle.std.proofs.Common.{◌≡◌, ℕ, ◌<◌, Bool, true, false, not, ◌||◌, List, [], ◌∷◌, ◌++◌, Option, Some, None, IsTrue, MatchOption, option_map, All, length, slice_get, get_or, arith, refl, sym, subst, ap, ◌∙◌, ◌⊎◌, inl, inr}
 use Rattle.std.specs.Bool.{beq}
+use Rattle.std.specs.Option.{option_eq}
 use Rattle.std.proofs.lemmas.Bool.{true≢false, false≢true, and_parts, and_from, or_cases, or_left, or_right}
 use Rattle.std.proofs.lemmas.List.Folds.{list_any-append, list_any_at}
 use Rattle.std.proofs.lemmas.List.Elements.{All-head, All-tail}
-use Rattle.std.proofs.lemmas.Option.{none-some, same_Some}
+use Rattle.std.proofs.lemmas.Option.{none-some, same_Some, get_or_from_slice_get, slice_get_within}
 use Rattle.sat_clauses.specs.declared.literal.Lit.{Lit}
 use Rattle.sat_clauses.specs.Literals.{same_literal}
 use Rattle.sat_clauses.specs.ClauseLists.{has, without}
 use Rattle.sat_clauses.proofs.SetLemmas.{one_literal, same_itself, has-without}
+use Rattle.sat_clauses.proofs.ListLemmas.{same_either_way}
 use Rattle.sat_solver.specs.declared.entry.Entry.{Entry}
-use Rattle.sat_solver.specs.Entries.{value_in, IsFreeIn, IsFalseIn, IsFalseClause, Forces, IsSettled}
+use Rattle.sat_solver.specs.Entries.{value_in, truth_in, IsFreeIn, IsFalseIn, IsFalseClause, Forces, IsSettled}
 
 not_both : (b : Bool) → b ≡ not b → ⊥
 not_both true e = true≢false e
@@ -141,3 +143,84 @@ All-has P (x ∷ xs) lit all h = elim (or_cases (same_literal lit x) (has xs lit
   | inl e ↦ subst P (sym (one_literal lit x e)) (All-head P x xs all)
   | inr e ↦ All-has P xs lit (All-tail P x xs all) e
 ]
+
+-- whether a literal is true
+pub truth_false : (entries : List Entry) (lit : Lit) → truth_in entries lit ≡ Some false → IsFalseIn entries lit
+truth_false entries lit e = by (value_in entries lit.var) e
+  where
+    by : (o : Option Bool) → option_map (λ value. beq value lit.positive) o ≡ Some false → o ≡ Some (not lit.positive)
+    by None e = cc
+    by (Some v) e = ap (λ x. Some x) (other_value v lit.positive (same_Some (beq v lit.positive) false e))
+
+pub truth_true : (entries : List Entry) (lit : Lit) → truth_in entries lit ≡ Some true → value_in entries lit.var ≡ Some lit.positive
+truth_true entries lit e = by (value_in entries lit.var) e
+  where
+    by : (o : Option Bool) → option_map (λ value. beq value lit.positive) o ≡ Some true → o ≡ Some lit.positive
+    by None e = cc
+    by (Some v) e = ap (λ x. Some x) (same_value v lit.positive (same_Some (beq v lit.positive) true e))
+
+pub truth_none : (entries : List Entry) (lit : Lit) → truth_in entries lit ≡ None → IsFreeIn entries lit
+truth_none entries lit e = by (value_in entries lit.var) e
+  where
+    by : (o : Option Bool) → option_map (λ value. beq value lit.positive) o ≡ None → o ≡ None
+    by None e = refl
+    by (Some v) e = cc
+
+pub false_truth : (entries : List Entry) (lit : Lit) → IsFalseIn entries lit → truth_in entries lit ≡ Some false
+false_truth entries lit e = ap (option_map (λ value. beq value lit.positive)) e ∙ ap (λ x. Some x) (differs lit.positive)
+  where
+    differs : (b : Bool) → beq (not b) b ≡ false
+    differs true = refl
+    differs false = refl
+
+pub truth_is : (o : Option Bool) (b : Bool) → option_eq beq o (Some b) ≡ true → o ≡ Some b
+truth_is None b e = absurd (true≢false (sym e))
+truth_is (Some v) b e = ap (λ x. Some x) (same_value v b e)
+
+pub truth_told : (o : Option Bool) (b : Bool) → o ≡ Some b → option_eq beq o (Some b) ≡ true
+truth_told o b e = ap (λ x. option_eq beq x (Some b)) e ∙ itself b
+  where
+    itself : (b : Bool) → beq b b ≡ true
+    itself true = refl
+    itself false = refl
+
+-- of a clause without a literal, one literal more that is false or left out
+pub false_without_push : (entries : List Entry) (clause : List Lit) (out lit : Lit) → IsFalseClause entries (without clause out) → (same_literal lit out ≡ true) ⊎ IsFalseIn entries lit → IsFalseClause entries (without (clause ++ lit ∷ []) out)
+false_without_push entries clause out lit all here = λ x h.
+    let parts = from_without (clause ++ lit ∷ []) out x h in
+    by x parts.1 (has-push clause lit x parts.0) here
+  where
+    by : (x : Lit) → same_literal out x ≡ false → IsTrue (has clause x) ⊎ IsTrue (same_literal x lit) → (same_literal lit out ≡ true) ⊎ IsFalseIn entries lit → IsFalseIn entries x
+    by x other (inl there) _ = all x (in_without clause out x there other)
+    by x other (inr same) (inr falsified) = subst (IsFalseIn entries) (sym (one_literal x lit same)) falsified
+    by x other (inr same) (inl left_out) = absurd (true≢false (sym left_out ∙ same_either_way lit out ∙ ap (same_literal out) (sym (one_literal x lit same)) ∙ other))
+
+pub truth_left : (o : Option Bool) → option_eq beq o (Some true) ≡ false → option_eq beq o (Some false) ≡ false → o ≡ None
+truth_left None e f = refl
+truth_left (Some true) e f = absurd (true≢false e)
+truth_left (Some false) e f = absurd (true≢false f)
+
+-- a clause is false if one literal and all others are
+pub false_all : (entries : List Entry) (clause : List Lit) (lit : Lit) → IsFalseIn entries lit → IsFalseClause entries (without clause lit) → IsFalseClause entries clause
+false_all entries clause lit here others = λ x h. by x h (same_literal lit x) refl
+  where
+    by : (x : Lit) → IsTrue (has clause x) → (b : Bool) → same_literal lit x ≡ b → IsFalseIn entries x
+    by x h true e = subst (IsFalseIn entries) (one_literal lit x e) here
+    by x h false e = others x (in_without clause lit x h e)
+
+-- the literal at a place, and the one literal of a short clause
+pub has_got : (clause : List Lit) (k : ℕ) (lit : Lit) → slice_get clause k ≡ Some lit → IsTrue (has clause lit)
+has_got clause k lit at = subst (λ l. IsTrue (has clause l)) (get_or_from_slice_get clause k lit lit at) (has-at clause k lit (slice_get_within clause k lit at))
+
+pub one_of : (clause : List Lit) (lit x : Lit) → length clause < 2 → slice_get clause 0 ≡ Some lit → IsTrue (has clause x) → same_literal lit x ≡ true
+one_of [] lit x few at h = cc
+one_of (l ∷ []) lit x few at h = by (same_literal x l) refl h
+  where
+    by : (b : Bool) → same_literal x l ≡ b → IsTrue (b || false) → same_literal lit x ≡ true
+    by true e _ = ap (λ y. same_literal y x) (sym (same_Some l lit at)) ∙ same_either_way l x ∙ e
+    by false e there = absurd (false≢true there)
+one_of (l ∷ m ∷ ls) lit x few at h = absurd (omega arith)
+
+pub none_of : (clause : List Lit) → None ≡ slice_get clause 0 → clause ≡ []
+none_of [] e = refl
+none_of (l ∷ ls) e = cc

@@ -1,5 +1,5 @@
 -- How a false clause becomes a lesson.
-use Rattle.std.proofs.Common.{◌≡◌, ◌≢◌, ℕ, suc, ◌≤◌, ◌<◌, ◌+◌, ◌-◌, Bool, true, false, not, cond, ◌&&◌, ◌||◌, List, [], ◌∷◌, ◌++◌, Option, Some, None, IsTrue, Result, Ok, Err, IfOk, MatchOption, option_map, is_none, take, drop, slice_get, refl, sym, subst, ap, ◌∙◌, arith, ◌⊎◌, inl, inr}
+use Rattle.std.proofs.Common.{◌≡◌, ◌≢◌, ℕ, suc, ◌≤◌, ◌<◌, ◌+◌, ◌-◌, Bool, true, false, not, cond, ◌&&◌, ◌||◌, List, [], ◌∷◌, ◌++◌, Option, Some, None, IsTrue, IfSome, MatchOption, option_map, is_none, take, drop, slice_get, refl, sym, subst, ap, ◌∙◌, arith, ◌⊎◌, inl, inr}
 use Rattle.std.proofs.lemmas.Bool.{true≢false, and_parts, or_cases, cases_eq, cases_lt}
 use Rattle.std.proofs.lemmas.List.{take-append-drop}
 use Rattle.std.proofs.lemmas.Option.{none-some, same_Some}
@@ -14,7 +14,7 @@ use Rattle.sat_solver.specs.declared.lesson.Lesson.{Lesson}
 use Rattle.sat_solver.specs.declared.lesson.Assertion.{Assertion}
 use Rattle.sat_solver.specs.Entries.{entry_of, value_in, IsFalseIn, IsFalseClause, Forces, IsForced, AllAlong, up_to, decisions}
 use Rattle.sat_solver.specs.Trails.{TrailState, IsTrail}
-use Rattle.sat_solver.specs.Lessons.{Asserts, Teaches}
+use Rattle.sat_solver.specs.Lessons.{Asserts, Teaches, IsSecond}
 use Rattle.sat_solver.proofs.AlongLemmas.{at_take, take_next}
 use Rattle.sat_solver.proofs.EntryLemmas.{entry_place, entry_kept, entry_past, free_entry, valued_entry, alone, value_kept, value_pushed, value_other}
 use Rattle.sat_solver.proofs.TrailLemmas.{decisions-push, before_level, level_low}
@@ -132,8 +132,8 @@ module _ (trail : TrailState) (is : IsTrail trail) (place : ℕ) (entry : Entry)
       by (inr h) = absurd (least (entry.level - 1) (omega (arith, h, one_more)) lower_false)
 
 -- a lesson with its clause, chain and assertion
-pub teach_lesson : (clauses : List (List Lit)) (trail : TrailState) (conflict : ℕ) (start clause : List Lit) (links : List Link) (asserted : Option Assertion) → slice_get clauses conflict ≡ Some start → Chain clauses links start clause → IsFalseClause trail.entries clause → MatchOption asserted (clause ≡ []) (λ assertion. Asserts trail clause assertion.lit assertion.level) → (lesson : Lesson) → lesson.clause.items ≡ clause → lesson.chain.items ≡ links → lesson.asserted ≡ asserted → Teaches clauses trail conflict lesson
-teach_lesson clauses trail conflict start clause links asserted found chain falsified asserts lesson clause_is links_are asserted_is = record {
+pub teach_lesson : (clauses : List (List Lit)) (trail : TrailState) (conflict : ℕ) (start clause : List Lit) (links : List Link) (asserted : Option Assertion) → slice_get clauses conflict ≡ Some start → Chain clauses links start clause → IsFalseClause trail.entries clause → MatchOption asserted (clause ≡ []) (λ assertion. Asserts trail clause assertion.lit assertion.level) → IfSome asserted (λ assertion. IsSecond trail.entries (without clause assertion.lit) assertion.level assertion.second) → (lesson : Lesson) → lesson.clause.items ≡ clause → lesson.chain.items ≡ links → lesson.asserted ≡ asserted → Teaches clauses trail conflict lesson
+teach_lesson clauses trail conflict start clause links asserted found chain falsified asserts second lesson clause_is links_are asserted_is = record {
   makes = record {
     start = start;
     numbered = found;
@@ -141,8 +141,5 @@ teach_lesson clauses trail conflict start clause links asserted found chain fals
   };
   falsified = subst (IsFalseClause trail.entries) (sym clause_is) falsified;
   asserted = subst (λ o. MatchOption o (lesson.clause.items ≡ []) (λ (assertion : Assertion). Asserts trail lesson.clause.items assertion.lit assertion.level)) (sym asserted_is) (subst (λ c. MatchOption asserted (c ≡ []) (λ (assertion : Assertion). Asserts trail c assertion.lit assertion.level)) (sym clause_is) asserts);
+  second = subst (λ o. IfSome o (λ (assertion : Assertion). IsSecond trail.entries (without lesson.clause.items assertion.lit) assertion.level assertion.second)) (sym asserted_is) (subst (λ c. IfSome asserted (λ (assertion : Assertion). IsSecond trail.entries (without c assertion.lit) assertion.level assertion.second)) (sym clause_is) second);
 }
-
-pub if_all_ok : {T E : Type 0} (r : Result T E) (P Q R S : T → Type 0) → IfOk r P → IfOk r Q → IfOk r R → ((x : T) → P x → Q x → R x → S x) → IfOk r S
-if_all_ok (Ok x) P Q R S p q r all = all x p q r
-if_all_ok (Err e) P Q R S p q r all = tt

@@ -1,6 +1,8 @@
 -- The levels of literals.
 use Rattle.std.proofs.Common.{◌≡◌, ◌≢◌, ℕ, zero, suc, ◌≤◌, ◌<◌, Bool, true, false, not, cond, eqb, leb, List, [], ◌∷◌, ◌++◌, Option, Some, None, IsTrue, option_map, take, slice_get, All, IfSome, max, refl, sym, subst, ap, ◌∙◌, arith, ◌⊎◌, inl, inr}
 use Rattle.std.proofs.lemmas.Bool.{true≢false, false≢true, cases_lt, cases_order, le-leb, leb-true}
+use Rattle.std.proofs.lemmas.List.{append-nil}
+use Rattle.std.proofs.lemmas.List.Elements.{filter-append}
 use Rattle.std.proofs.lemmas.Option.{none-some, same_Some}
 use Rattle.sat_clauses.specs.declared.literal.Lit.{Lit}
 use Rattle.sat_clauses.specs.Literals.{same_literal}
@@ -9,6 +11,7 @@ use Rattle.sat_clauses.proofs.SetLemmas.{one_literal, same_itself}
 use Rattle.sat_clauses.proofs.ListLemmas.{same_either_way}
 use Rattle.sat_solver.specs.declared.entry.Entry.{Entry}
 use Rattle.sat_solver.specs.Entries.{entry_of, value_in, IsFreeIn, IsFalseIn, IsFalseClause, AllAlong, up_to}
+use Rattle.sat_solver.specs.Lessons.{IsSecond}
 use Rattle.sat_solver.proofs.AlongLemmas.{All-at, in_take}
 use Rattle.sat_solver.proofs.EntryLemmas.{entry_place, valued_entry, free_apart}
 use Rattle.sat_solver.proofs.ClauseLemmas.{in_without, from_without, has-push, has-front, has-last}
@@ -155,3 +158,31 @@ level_given entries lit n falsified given =
     let found = valued_entry entries lit.var (not lit.positive) falsified in
     let here : IfSome (Some found.0) (λ entry. n ≡ entry.level) = subst (λ o. IfSome o (λ (entry : Entry). n ≡ entry.level)) found.1 given in
     (found.0, found.1, sym here)
+
+-- a second literal of the highest level, as the clause goes on
+pub second_skip : (entries : List Entry) (xs : List Lit) (lit other : Lit) (level : ℕ) (second : Option Lit) → same_literal other lit ≡ true → IsSecond entries (without xs lit) level second → IsSecond entries (without (xs ++ other ∷ []) lit) level second
+second_skip entries xs lit other level second same is = subst (λ ls. IsSecond entries ls level second) (sym gone) is
+  where
+    gone : without (xs ++ other ∷ []) lit ≡ without xs lit
+    gone =
+        filter-append (λ x. not (same_literal lit x)) xs (other ∷ [])
+        ∙ ap (λ b. without xs lit ++ cond (not b) (other ∷ []) []) (same_either_way lit other ∙ same)
+        ∙ append-nil (without xs lit)
+
+pub second_stays : (entries : List Entry) (xs : List Lit) (lit other : Lit) (level : ℕ) (second : Option Lit) → 0 < level → IsHighest entries (without xs lit) level → IsSecond entries (without xs lit) level second → IsSecond entries (without (xs ++ other ∷ []) lit) level second
+second_stays entries xs lit other level None above is none = elim is.reached [
+  | inl e ↦ absurd (omega (arith, e, above))
+  | inr at ↦ absurd (false≢true (subst (λ ls. IsTrue (has ls at.0)) none at.1))
+]
+second_stays entries xs lit other level (Some second) above is there =
+    let parts = from_without xs lit second there.0 in
+    (in_without (xs ++ other ∷ []) lit second (has-front xs (other ∷ []) second parts.0) parts.1, there.1)
+
+pub second_new : (entries : List Entry) (fresh : AllAlong (λ before entry. value_in before entry.lit.var ≡ None) entries) (xs : List Lit) (lit other : Lit) (level : ℕ) → same_literal other lit ≡ false → OnLevel entries other level → IsSecond entries (without (xs ++ other ∷ []) lit) level (Some other)
+second_new entries fresh xs lit other level ne on = (
+  in_without (xs ++ other ∷ []) lit other (has-last xs other) (same_either_way lit other ∙ ne),
+  λ k entry at is.
+      let spot = entry_place entries other.var on.0 on.1 in
+      let one : on.0 ≡ entry = one_entry entries fresh spot.0 k on.0 entry spot.1 at (spot.2 ∙ sym (ap (λ (l : Lit). l.var) is)) in
+      omega (arith, on.2, ap (λ (e : Entry). e.level) one),
+)

@@ -1,4 +1,5 @@
 pub mod StoreLemmas
+pub mod WatchingLemmas
 pub mod AlongLemmas
 pub mod EntryLemmas
 pub mod TrailLemmas
@@ -6,6 +7,8 @@ pub mod ClauseLemmas
 pub mod ExtendLemmas
 pub mod QueueLemmas
 pub mod LevelLemmas
+pub mod PairingLemmas
+pub mod WalkLemmas
 pub mod LessonLemmas
 pub mod MeasureLemmas
 pub mod SearchLemmas

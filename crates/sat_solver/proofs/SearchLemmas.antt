@@ -1,7 +1,7 @@
 -- Searches that go on.
-use Rattle.std.proofs.Common.{◌≡◌, ℕ, ◌≤◌, ◌<◌, List, [], ◌∷◌, ◌++◌, Some, IsSome, All, take, length, get_or, slice_get, sym, subst, ap, ◌∙◌, arith, ◌⊎◌, inl, inr}
+use Rattle.std.proofs.Common.{◌≡◌, ℕ, ◌+◌, ◌≤◌, ◌<◌, List, [], ◌∷◌, ◌++◌, Some, IsSome, All, take, length, get_or, slice_get, sym, subst, ap, ◌∙◌, arith, ◌⊎◌, inl, inr}
 use Rattle.std.proofs.lemmas.Bool.{cases_lt}
-use Rattle.std.proofs.lemmas.List.{take-append-le}
+use Rattle.std.proofs.lemmas.List.{take-append-le, length_push}
 use Rattle.sat_clauses.specs.declared.literal.Lit.{Lit}
 use Rattle.sat_clauses.specs.Derivations.{Resolution, Follow}
 use Rattle.sat_solver.specs.declared.entry.Entry.{Entry}
@@ -54,3 +54,8 @@ greatest_later clauses clause vars is within =
 pub follow_keeps : (known all : List (List Lit)) (steps : List Resolution) → Follow known steps all → (k : ℕ) (clause : List Lit) → slice_get known k ≡ Some clause → slice_get all k ≡ Some clause
 follow_keeps known all [] follow k clause e = ap (λ cs. slice_get cs k) follow ∙ e
 follow_keeps known all (step ∷ steps) follow k clause e = follow_keeps (known ++ follow.0 ∷ []) all steps follow.2 k clause (at_front known (follow.0 ∷ []) k clause e)
+
+-- each step makes one clause
+pub follow_length : (known all : List (List Lit)) (steps : List Resolution) → Follow known steps all → length all ≡ length known + length steps
+follow_length known all [] follow = ap length follow ∙ omega arith
+follow_length known all (step ∷ steps) follow = follow_length (known ++ follow.0 ∷ []) all steps follow.2 ∙ omega (arith, length_push known follow.0)

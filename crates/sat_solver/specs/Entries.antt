@@ -1,5 +1,6 @@
 -- Literals in the order in which they became true.
 use Rattle.std.specs.Prelude.{◌≡◌, ℕ, ◌==◌, ◌≤◌, Bool, not, List, ◌++◌, Option, Some, None, option_map, is_none, IsSome, IsTrue, nat_le, take, length, filter, find, map, count_by, slice_get}
+use Rattle.std.specs.Bool.{beq}
 use Rattle.std.specs.List.{range_with_len}
 use Rattle.sat_clauses.specs.declared.literal.Lit.{Lit}
 use Rattle.sat_clauses.specs.ClauseLists.{has, without}
@@ -22,6 +23,10 @@ IsFreeIn entries lit = value_in entries lit.var ≡ None
 
 abbrev pub IsFalseIn : List Entry → Lit → Type 0
 IsFalseIn entries lit = value_in entries lit.var ≡ Some (not lit.positive)
+
+-- whether the literal is true, where its variable has a value
+abbrev pub truth_in : List Entry → Lit → Option Bool
+truth_in entries lit = option_map (λ value. beq value lit.positive) (value_in entries lit.var)
 
 -- a clause is false if each of its literals is
 abbrev pub IsFalseClause : List Entry → List Lit → Type 0

@@ -1,9 +1,9 @@
 -- What a conflict teaches.
-use Rattle.std.specs.Prelude.{◌≡◌, ℕ, ◌<◌, List, [], None, ◌⊎◌, MatchOption}
+use Rattle.std.specs.Prelude.{◌≡◌, ℕ, ◌<◌, List, [], Option, None, ◌⊎◌, Some, IfSome, IsTrue, ◌≤◌, slice_get, MatchOption}
 use Rattle.sat_clauses.specs.declared.literal.Lit.{Lit}
 use Rattle.std.specs.List.{IsDistinct}
 use Rattle.sat_clauses.specs.Literals.{same_literal, opposite}
-use Rattle.sat_clauses.specs.ClauseLists.{without}
+use Rattle.sat_clauses.specs.ClauseLists.{has, without}
 use Rattle.sat_clauses.specs.Derivations.{Resolution, Makes}
 use Rattle.sat_solver.specs.declared.entry.Entry.{Entry}
 use Rattle.sat_solver.specs.declared.lesson.Lesson.{Lesson}
@@ -19,6 +19,11 @@ pub record Asserts (trail : TrailState) (clause : List Lit) (lit : Lit) (level :
   pub forces : Forces (up_to level trail.entries) clause lit
   pub least : (lower : ℕ) → lower < level → ¬ IsFalseClause (up_to lower trail.entries) (without clause lit)
 
+-- of literals that are false, one whose entry is of a level or above; there is none if there are no literals
+abbrev pub IsSecond : List Entry → List Lit → ℕ → Option Lit → Type 0
+IsSecond entries lits level None = lits ≡ []
+IsSecond entries lits level (Some lit) = IsTrue (has lits lit) × ((k : ℕ) (entry : Entry) → slice_get entries k ≡ Some entry → entry.lit ≡ opposite lit → level ≤ entry.level)
+
 -- the literals of a clause other than the opposite of an entry's are false up to a level, and up to no lower one: a level
 -- below the entry's, unless the entry is a decision
 pub record Stops (trail : TrailState) (clause : List Lit) (entry : Entry) (measured : Measured) : Type 0 where
@@ -26,6 +31,7 @@ pub record Stops (trail : TrailState) (clause : List Lit) (entry : Entry) (measu
   pub distinct : IsDistinct same_literal clause
   pub others : IsFalseClause (up_to measured.level trail.entries) (without clause (opposite entry.lit))
   pub least : (lower : ℕ) → lower < measured.level → ¬ IsFalseClause (up_to lower trail.entries) (without clause (opposite entry.lit))
+  pub second : IsSecond trail.entries (without clause (opposite entry.lit)) measured.level measured.second
   pub lower : (measured.level < entry.level) ⊎ (entry.reason ≡ None)
 
 -- the step of a lesson that begins with the clause of a number
@@ -37,3 +43,4 @@ pub record Teaches (clauses : List (List Lit)) (trail : TrailState) (conflict : 
   pub makes : Makes clauses (step_of conflict lesson) lesson.clause.items
   pub falsified : IsFalseClause trail.entries lesson.clause.items
   pub asserted : MatchOption lesson.asserted (lesson.clause.items ≡ []) (λ assertion. Asserts trail lesson.clause.items assertion.lit assertion.level)
+  pub second : IfSome lesson.asserted (λ assertion. IsSecond trail.entries (without lesson.clause.items assertion.lit) assertion.level assertion.second)

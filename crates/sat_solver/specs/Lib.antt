@@ -1,7 +1,9 @@
 pub mod Stores
+pub mod Keeping
+pub mod Watching
 pub mod Entries
 pub mod Trails
-pub mod Looks
+pub mod Pairing
 pub mod Lessons
 pub mod Measures
 pub mod Searches

@@ -1,5 +1,5 @@
 -- The search of a solver.
-use Rattle.std.specs.Prelude.{◌≡◌, ℕ, ◌<◌, List, [], ◌∷◌, ◌++◌, Bool, true, false, IsSome, All, map}
+use Rattle.std.specs.Prelude.{◌≡◌, ℕ, ◌<◌, List, [], ◌∷◌, ◌++◌, ◌^◌, Bool, true, false, IsSome, All, length, map}
 use Rattle.std.specs.declared.cmp.Ordering.TheVariants.{Less}
 use Rattle.std.specs.Ordering.{nat_cmp}
 use Rattle.std.specs.Cmp.Lexicographic.{slice_cmp}
@@ -10,7 +10,8 @@ use Rattle.sat_solver.specs.declared.search.Search.{Search}
 use Rattle.sat_solver.specs.declared.search.Turn.{Turn}
 use Rattle.sat_solver.specs.declared.search.Turn.TheVariants.{GoesOn, Holds, Derives}
 use Rattle.sat_solver.specs.Entries.{AllReasoned, AllSettled, values_of}
-use Rattle.sat_solver.specs.Trails.{TrailState, IsTrail, Paired}
+use Rattle.sat_solver.specs.Trails.{TrailState, IsTrail}
+use Rattle.sat_solver.specs.Pairing.{Paired}
 use Rattle.sat_solver.specs.Measures.{level_counts, weight}
 
 -- the parts of a search belong together
@@ -43,10 +44,15 @@ pub record Learns (old new : Search) : Type 0 where
   pub farther : weight_of old < weight_of new
   pub search : IsSearch new
 
+-- a search made a last step, which makes the empty clause, and its clauses are few
+pub record DerivesEmpty (old new : Search) : Type 0 where
+  pub derived : Derived old new []
+  pub few : length old.store.clauses < 2 ^ 62
+
 -- a search learnt a clause, or derived the empty one and ends
 abbrev pub LearnsOrEnds : Search → Search → Bool → Type 0
 LearnsOrEnds old new true = Learns old new
-LearnsOrEnds old new false = Derived old new []
+LearnsOrEnds old new false = DerivesEmpty old new
 
 -- the list of literal counts per level rises in lexicographic order
 abbrev pub Rises : TrailState → TrailState → Type 0
@@ -69,4 +75,4 @@ pub record Ends (old new : Search) : Type 0 where
 abbrev pub TurnIs : Search → Search → Turn → Type 0
 TurnIs old new GoesOn = Continues old new
 TurnIs old new Holds = Ends old new
-TurnIs old new Derives = Derived old new []
+TurnIs old new Derives = DerivesEmpty old new

@@ -1,7 +1,6 @@
 -- Trails.
 use Rattle.std.specs.Prelude.{◌≡◌, ℕ, ◌+◌, ◌-◌, ◌≤◌, List, [], ◌∷◌, ◌++◌, Bool, Option, None, is_none, length, count_by, slice_index, All}
 use Rattle.sat_solver.specs.declared.entry.Entry.{Entry}
-use Rattle.sat_solver.specs.Stores.{StoreState, greatest_var}
 use Rattle.sat_solver.specs.Entries.{value_in, values_of, AllAlong, decisions}
 
 -- what contracts see of a trail: the number of its variables, its literals with their levels, oldest first, the present
@@ -28,10 +27,6 @@ empty_trail vars = record { vars = vars; entries = []; level = 0; worked = 0 }
 -- the trail with an entry at its end
 abbrev pub with_entry : TrailState → Entry → TrailState
 with_entry trail entry = record { vars = trail.vars; entries = trail.entries ++ entry ∷ []; level = entry.level; worked = trail.worked }
-
--- a trail and a store have the same variables
-abbrev pub Paired : TrailState → StoreState → Type 0
-Paired trail store = trail.vars ≡ greatest_var store.clauses
 
 -- how the parts of a trail belong together: the values and levels by variable, and room for an entry of each variable
 pub record KeepsTrail (values : List (Option Bool)) (levels : List ℕ) (entries : List Entry) (level worked capacity : ℕ) : Type 0 where

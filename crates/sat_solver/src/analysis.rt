@@ -41,6 +41,7 @@ pub(crate) fn analyze(
                     asserted: Some(Assertion {
                         lit: pivot,
                         level: measured.level,
+                        second: measured.second,
                     }),
                 });
             }

@@ -4,6 +4,7 @@ ghost use Rattle.std.specs.List.{IsDistinct};
 ghost use Rattle.sat_clauses.specs.Literals.{same_literal};
 ghost use Rattle.sat_clauses.specs.ClauseLists.{IsClause, resolvent, without};
 ghost use Rattle.sat_solver.specs.Entries.{IsFalseClause, up_to};
+ghost use Rattle.sat_solver.specs.Lessons.{IsSecond};
 ghost use Rattle.sat_solver.specs.Trails.{IsTrail};
 
 use crate::entry::Entry;
@@ -20,18 +21,28 @@ pub(crate) struct Lesson {
     pub(crate) asserted: Option<Assertion>,
 }
 
-/// A literal of a clause whose others are false up to a level, which is below the literal's.
+/// A literal of a clause whose others are false up to a level, which is below the literal's, and one of the others that
+/// is of that level, if there are others.
 #[derive(Clone, Copy)]
 pub(crate) struct Assertion {
     pub(crate) lit: Lit,
     pub(crate) level: u64,
+    pub(crate) second: Option<Lit>,
 }
 
-/// The literals of a clause, and the highest level among those other than one.
+/// The literals of a clause, and of those other than one the highest level with a literal of it, if there are any.
 #[derive(Drop)]
 pub(crate) struct Measured {
     pub(crate) clause: Vec<Lit>,
     pub(crate) level: u64,
+    pub(crate) second: Option<Lit>,
+}
+
+/// A level, and a literal of it, if there is one.
+#[derive(Clone, Copy)]
+struct Highest {
+    level: u64,
+    second: Option<Lit>,
 }
 
 /// A clause in the making. `latest` is how many of its literals are taken to be of the present level: it saves looks at
@@ -106,25 +117,39 @@ impl Making {
             return Ok(None);
         }
         let clause = self.clause.literals(alloc)?;
-        let level = highest_other(trail, clause.as_slice(), entry.lit.opposite());
-        if level >= entry.level && entry.reason.is_some() {
+        let highest = highest_other(trail, clause.as_slice(), entry.lit.opposite());
+        if highest.level >= entry.level && entry.reason.is_some() {
             return Ok(None);
         }
-        Ok(Some(Measured { clause, level }))
+        Ok(Some(Measured {
+            clause,
+            level: highest.level,
+            second: highest.second,
+        }))
     }
 }
 
-/// The highest level among the literals of a clause other than one.
-fn highest_other(trail: &Trail, clause: &[Lit], lit: Lit) -> u64
+/// The highest level among the literals of a clause other than one, and a literal of it.
+fn highest_other(trail: &Trail, clause: &[Lit], lit: Lit) -> Highest
     requires trail { IsTrail trail.now }
     requires falsified { IsFalseClause trail.now.entries clause.now }
-    ensures others { IsFalseClause (up_to result trail.now.entries) (without clause.now lit) }
-    ensures least { (lower : ℕ) → lower < result → ¬ IsFalseClause (up_to lower trail.now.entries) (without clause.now lit) }
+    ensures others { IsFalseClause (up_to result.level trail.now.entries) (without clause.now lit) }
+    ensures least { (lower : ℕ) → lower < result.level → ¬ IsFalseClause (up_to lower trail.now.entries) (without clause.now lit) }
+    ensures second { IsSecond trail.now.entries (without clause.now lit) result.level result.second }
 {
-    let mut highest = 0;
+    let mut highest = Highest {
+        level: 0,
+        second: None,
+    };
     for other in clause {
         if *other != lit {
-            highest = trail.level_of(other.var).max(highest);
+            let level = trail.level_of(other.var);
+            if level >= highest.level {
+                highest = Highest {
+                    level,
+                    second: Some(*other),
+                };
+            }
         }
     }
     highest

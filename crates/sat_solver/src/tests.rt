@@ -1,5 +1,6 @@
-ghost use Rattle.std.specs.Prelude.{IfOk};
+ghost use Rattle.std.specs.Prelude.{◌≡◌, IfOk};
 ghost use Rattle.sat_links.specs.Queues.{IsQueue};
+ghost use Rattle.sat_solver.specs.Pairing.{Paired};
 
 use crate::{Answer, Store, Trail, solve};
 use sat_clauses::{Assignment, Clauses, Lit};
@@ -128,6 +129,23 @@ fn four_pigeons_and_a_thousand_implications(rt: HostRuntime) -> Result<(), Fail>
     Ok(())
 }
 
+/// Propagates where no clause becomes false, and then decides.
+fn settle_and_decide(
+    rt: &impl Abort,
+    trail: &mut Trail,
+    store: &mut Store,
+    queue: &DecisionQueue,
+) -> Option<Lit>
+    requires paired { Paired trail.old store.old }
+    requires queue { IsQueue trail.old.vars queue.now }
+    ensures paired { Paired trail.new store.new }
+    ensures vars { trail.new.vars ≡ trail.old.vars }
+{
+    let conflict = trail.propagate(store);
+    assert!(rt; conflict.is_none());
+    trail.decide(queue)
+}
+
 #[test]
 fn a_trail_propagates_decides_and_jumps_back(rt: HostRuntime) -> Result<(), Fail> {
     let alloc = rt.alloc();
@@ -137,20 +155,55 @@ fn a_trail_propagates_decides_and_jumps_back(rt: HostRuntime) -> Result<(), Fail
     let vars = store.vars();
     assert_eq!(rt; vars, 3);
     let mut trail = Trail::new(alloc, vars)?;
-    assert_eq!(rt; trail.propagate(&mut store), None);
-    assert_eq!(rt; trail.decide(&queue), Some(literal(-1)));
-    assert_eq!(rt; trail.propagate(&mut store), None);
-    assert_eq!(rt; trail.decide(&queue), Some(literal(-2)));
-    assert_eq!(rt; trail.propagate(&mut store), None);
+    for expected in [Some(literal(-1)), Some(literal(-2)), None] {
+        let decided = settle_and_decide(&rt, &mut trail, &mut store, &queue);
+        assert_eq!(rt; decided, expected);
+    }
     assert_eq!(rt; trail.level(), 2);
     assert_eq!(rt;
         trail.values(),
         [Some(false), Some(false), Some(true)].as_slice()
     );
-    assert_eq!(rt; trail.decide(&queue), None);
     trail.jump_back(0);
     assert_eq!(rt; trail.level(), 0);
     assert_eq!(rt; trail.values(), [None, None, None].as_slice());
     assert_eq!(rt; trail.propagate(&mut store), None);
+    Ok(())
+}
+
+/// The place of the clause that a propagation finds false, at first or behind a decision.
+fn falsified(
+    rt: &impl Abort,
+    alloc: Global,
+    rows: &[&[i64]],
+    behind: bool,
+) -> Result<Option<u64>, AllocError> {
+    let clauses = clauses_of(rt, alloc, rows)?;
+    let mut store = Store::new(alloc, &clauses)?;
+    let vars = store.vars();
+    let mut trail = Trail::new(alloc, vars)?;
+    if behind {
+        trail.decide(&DecisionQueue::new(alloc, vars)?);
+    }
+    Ok(trail.propagate(&mut store))
+}
+
+#[test]
+fn false_and_unit_clauses_are_found_at_first_and_behind_a_decision(
+    rt: HostRuntime,
+) -> Result<(), Fail> {
+    let alloc = rt.alloc();
+    let cases: [(&[&[i64]], Option<u64>, Option<u64>); 6] = [
+        (&[&[1]], None, Some(0)),
+        (&[&[]], Some(0), Some(0)),
+        (&[&[1, -1]], None, None),
+        (&[&[1, 2], &[1, 2]], None, None),
+        (&[&[1], &[-1]], Some(1), Some(0)),
+        (&[&[3], &[], &[3]], Some(1), Some(0)),
+    ];
+    for (rows, first, behind) in cases {
+        assert_eq!(rt; falsified(&rt, alloc, rows, false)?, first);
+        assert_eq!(rt; falsified(&rt, alloc, rows, true)?, behind);
+    }
     Ok(())
 }

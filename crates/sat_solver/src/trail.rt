@@ -1,8 +1,11 @@
 //! The trail: the literals that became true, in their order.
-ghost use Rattle.std.specs.Prelude.{◌≡◌, ◌+◌, ◌++◌, ◌∷◌, [], ◌≤◌, length, take, min, false, All, IfOk, None, Some, IfSome, IfNone, IsSome, IsNone, ◌↔◌};
+ghost use Rattle.std.specs.Prelude.{◌≡◌, ◌+◌, ◌++◌, ◌∷◌, [], ◌≤◌, ◌<◌, length, take, min, false, All, IfOk, None, Some, IfSome, IfNone, IsSome, IsNone, ◌↔◌};
 ghost use Rattle.sat_links.specs.Queues.{IsQueue, IsLastFree};
 ghost use Rattle.sat_solver.specs.Entries.{entry_of, value_in, values_of, IsFreeIn, decisions, up_to};
+ghost use Rattle.sat_solver.specs.Stores.{StoreState};
 ghost use Rattle.sat_solver.specs.Trails.{IsTrail, empty_trail, with_entry};
+ghost use Rattle.sat_solver.specs.Watching.{IsWatching};
+ghost use Rattle.sat_solver.specs.Pairing.{IsNextFalse, Paired};
 
 use crate::entry::Entry;
 use sat_clauses::Lit;
@@ -37,6 +40,7 @@ impl Trail {
     pub fn new(alloc: Global, vars: u64) -> Result<Trail, NoMemory>
         ensures empty { IfOk result (λ trail. trail ≡ empty_trail vars) }
         ensures trail { IfOk result IsTrail }
+        ensures paired { IfOk result (λ trail. (store : StoreState) → store.vars ≡ vars → IsWatching store → store.seen ≡ 0 → Paired trail store) }
     {
         let count = vars as usize;
         Ok(Trail {
@@ -115,12 +119,25 @@ impl Trail {
         });
     }
 
-    /// Notes that all literals were worked through.
-    pub(crate) fn work_through(&mut self)
-        ensures worked { self.new ≡ record self.old { worked = length self.old.entries } }
+    /// The literal that became false by the first entry that wasn't worked through.
+    pub(crate) fn next_false(&self) -> Option<Lit>
+        ensures next { IsNextFalse self.now result }
+        ensures trail { IsTrail self.now }
+    {
+        if self.worked < self.entries.len() {
+            Some(self.entries[self.worked].lit.opposite())
+        } else {
+            None
+        }
+    }
+
+    /// Notes that one literal more was worked through.
+    pub(crate) fn work_on(&mut self)
+        requires { self.old.worked < length self.old.entries }
+        ensures worked { self.new ≡ record self.old { worked = self.old.worked + 1 } }
         ensures trail { IsTrail self.new }
     {
-        self.worked = self.entries.len();
+        self.worked += 1;
     }
 
     /// Opens a level with the last variable of a queue that has no value. It becomes false, and the answer is its
@@ -134,18 +151,30 @@ impl Trail {
         ensures unchanged { IfNone result (self.new ≡ self.old) }
         ensures vars { self.new.vars ≡ self.old.vars }
         ensures trail { IsTrail self.new }
+        ensures paired { (store : StoreState) → Paired self.old store → self.old.worked ≡ length self.old.entries → Paired self.new store }
     {
         let var = queue.last_free(self.values())?;
         let lit = Lit {
             var,
             positive: false,
         };
+        self.decide_literal(lit);
+        Some(lit)
+    }
+
+    /// Opens a level with a free literal, which becomes true.
+    pub fn decide_literal(&mut self, lit: Lit)
+        requires within { (1 ≤ lit.var) × (lit.var ≤ self.old.vars) }
+        requires free { IsFreeIn self.old.entries lit }
+        ensures opened { self.new ≡ with_entry self.old (record { lit = lit; level = self.old.level + 1; reason = None }) }
+        ensures trail { IsTrail self.new }
+        ensures paired { (store : StoreState) → Paired self.old store → self.old.worked ≡ length self.old.entries → Paired self.new store }
+    {
         self.push(Entry {
             lit,
             level: self.level + 1,
             reason: None,
         });
-        Some(lit)
     }
 
     /// Drops the literals of all levels above a level, which is then the present one.
@@ -157,6 +186,7 @@ impl Trail {
         ensures worked { self.new.worked ≡ min self.old.worked (length self.new.entries) }
         ensures vars { self.new.vars ≡ self.old.vars }
         ensures trail { IsTrail self.new }
+        ensures paired { (store : StoreState) → Paired self.old store → Paired self.new store }
     {
         'back: while let Some(last) = self.entries.last().copied() {
             if last.level <= level {

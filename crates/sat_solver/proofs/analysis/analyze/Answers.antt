@@ -4,14 +4,14 @@ use Rattle.std.proofs.lemmas.List.{take_all}
 use Rattle.std.proofs.lemmas.Option.{slice_get-get_or, slice_get_within, same_Some}
 use Rattle.sat_clauses.specs.declared.derivation.Link.{Link}
 use Rattle.sat_clauses.specs.Literals.{IsLiteral, opposite}
-use Rattle.sat_clauses.specs.ClauseLists.{IsClause, has, resolvent}
+use Rattle.sat_clauses.specs.ClauseLists.{IsClause, has, without, resolvent}
 use Rattle.sat_clauses.specs.Derivations.{Chain}
 use Rattle.sat_clauses.proofs.DerivationLemmas.{Chain-push}
 use Rattle.sat_clauses.proofs.SetLemmas.{All-resolvent}
 use Rattle.sat_solver.specs.declared.entry.Entry.{Entry}
 use Rattle.sat_solver.specs.declared.lesson.Lesson.{Lesson}
 use Rattle.sat_solver.specs.Entries.{IsFalseClause, IsForced, Forces}
-use Rattle.sat_solver.specs.Lessons.{Asserts, Stops}
+use Rattle.sat_solver.specs.Lessons.{Asserts, Stops, IsSecond}
 use Rattle.sat_solver.proofs.LessonLemmas.{false_later, nothing_left, step_over, step_through, leads_on, asserts_below, decision_below, teach_lesson}
 use Rattle.sat_solver.proofs.analysis.analyze.Goals as goal
 use Rattle.sat_solver.proofs.analysis.analyze.Goals.{In-back}
@@ -119,10 +119,11 @@ returns-in-Some-clause-teaches c =
       | inr none ↦ decision_below trail c.requires.trail place entry (at body) keys there (falsified body) level stops.others stops.least none
     ] in
     let asserts : Asserts trail keys pivot level = subst (λ p. Asserts trail keys p level) (sym c.opposite-pivot.ensures) (asserts_below trail c.requires.trail place entry (at body) keys there (falsified body) level stops.others stops.least below) in
+    let second : IsSecond trail.entries (without keys pivot) level measured.second = subst (λ p. IsSecond trail.entries (without keys p) level measured.second) (sym c.opposite-pivot.ensures) stops.second in
     let start = c.start.new.self.clause in
     let found : slice_get clauses c.args.conflict ≡ Some start = c.clause.ensures.found ∙ ap (λ xs. Some xs) (sym c.in_ok-start.ensures) in
-    let lesson : Lesson = record { clause = measured.clause; chain = c.back.chain; asserted = Some (record { lit = pivot; level = level }) } in
-    teach_lesson clauses trail c.args.conflict start keys c.back.chain.items (Some (record { lit = pivot; level = level })) found c.back.invariant.chain (false_later trail.entries c.back.place keys c.back.invariant.falsified) asserts lesson stops.literals refl refl
+    let lesson : Lesson = record { clause = measured.clause; chain = c.back.chain; asserted = Some (record { lit = pivot; level = level; second = measured.second }) } in
+    teach_lesson clauses trail c.args.conflict start keys c.back.chain.items (Some (record { lit = pivot; level = level; second = measured.second })) found c.back.invariant.chain (false_later trail.entries c.back.place keys c.back.invariant.falsified) asserts second lesson stops.literals refl refl
 
 pub returns-in-Some-clause-clause : goal.returns-in-Some-clause-clause
 returns-in-Some-clause-clause c =
@@ -141,7 +142,7 @@ returns-clause-teaches c =
     let start = c.start.new.self.clause in
     let found : slice_get clauses c.args.conflict ≡ Some start = c.clause.ensures.found ∙ ap (λ xs. Some xs) (sym c.in_ok-start.ensures) in
     let lesson : Lesson = record { clause = c.in_ok-literals.field-0; chain = c.back.chain; asserted = None } in
-    teach_lesson clauses trail c.args.conflict start keys c.back.chain.items None found c.back.invariant.chain (false_later trail.entries c.back.place keys c.back.invariant.falsified) (nothing_left keys end) lesson c.in_ok-literals.ensures.literals refl refl
+    teach_lesson clauses trail c.args.conflict start keys c.back.chain.items None found c.back.invariant.chain (false_later trail.entries c.back.place keys c.back.invariant.falsified) (nothing_left keys end) tt lesson c.in_ok-literals.ensures.literals refl refl
 
 pub returns-clause-clause : goal.returns-clause-clause
 returns-clause-clause c =

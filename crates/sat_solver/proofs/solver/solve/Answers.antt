@@ -1,13 +1,14 @@
-use Rattle.std.proofs.Common.{◌≡◌, ◌++◌, ◌∷◌, [], false, All, IsSome, IsTrue, map, unwrap_or, length, sym, ap, subst, ◌∙◌}
-use Rattle.std.proofs.lemmas.List.{length-map}
+use Rattle.std.proofs.Common.{◌≡◌, ◌<◌, ◌+◌, ◌^◌, arith, ◌++◌, ◌∷◌, [], false, All, IsSome, IsTrue, map, unwrap_or, length, sym, ap, subst, ◌∙◌}
+use Rattle.std.proofs.lemmas.List.{length-map, length_push}
 use Rattle.sat_clauses.specs.ClauseLists.{holds}
 use Rattle.sat_clauses.specs.Derivations.{Derives, resolution_of}
 use Rattle.sat_solver.specs.Stores.{greatest_var}
 use Rattle.sat_solver.specs.Entries.{values_of}
-use Rattle.sat_solver.specs.Searches.{TurnIs, Continues, Ends, Derived, steps_in}
+use Rattle.sat_solver.specs.Searches.{TurnIs, Continues, Ends, DerivesEmpty, steps_in}
 use Rattle.sat_solver.proofs.EntryLemmas.{length-values_of}
 use Rattle.sat_solver.proofs.CountLemmas.{less_left}
 use Rattle.sat_solver.proofs.SolutionLemmas.{derives_empty, all_hold}
+use Rattle.sat_solver.proofs.SearchLemmas.{follow_length}
 use Rattle.sat_solver.proofs.solver.solve.Goals as goal
 
 pub turns-smaller : goal.turns-smaller
@@ -37,6 +38,8 @@ returns-in-Derives c =
     let clauses = c.args.clauses.now in
     let old = c.turns.search in
     let new = c.turn.new.self in
-    let ends : Derived old new [] = subst (TurnIs old new) c.in-Derives.is c.in_ok-turn.ensures in
-    let derives : Derives clauses (steps_in old ++ ends.step ∷ []) = derives_empty clauses old.store.clauses (steps_in old) ends.step c.turns.invariant.follow ends.makes in
-    subst (Derives clauses) (sym ends.steps ∙ ap (λ v. map resolution_of v.items) (sym c.into_derivation.ensures)) derives
+    let ends : DerivesEmpty old new = subst (TurnIs old new) c.in-Derives.is c.in_ok-turn.ensures in
+    let derives : Derives clauses (steps_in old ++ ends.derived.step ∷ []) = derives_empty clauses old.store.clauses (steps_in old) ends.derived.step c.turns.invariant.follow ends.derived.makes in
+    let steps : steps_in old ++ ends.derived.step ∷ [] ≡ _ = sym ends.derived.steps ∙ ap (λ v. map resolution_of v.items) (sym c.into_derivation.ensures) in
+    let few : length clauses + length (steps_in old ++ ends.derived.step ∷ []) < 2 ^ 63 = omega (arith, follow_length clauses old.store.clauses (steps_in old) c.turns.invariant.follow, length_push (steps_in old) ends.derived.step, ends.few) in
+    subst (λ ss. Derives clauses ss × (length clauses + length ss < 2 ^ 63)) steps (derives, few)

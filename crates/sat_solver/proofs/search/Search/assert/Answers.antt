@@ -2,14 +2,17 @@ use Rattle.std.proofs.Common.{◌≡◌, ◌≤◌, ◌<◌, ◌++◌, ◌∷◌
 use Rattle.std.proofs.lemmas.List.{length-take}
 use Rattle.sat_links.specs.Queues.{IsQueue}
 use Rattle.sat_solver.specs.declared.entry.Entry.{Entry}
-use Rattle.sat_solver.specs.Stores.{greatest_var}
-use Rattle.sat_solver.specs.Entries.{IsForced, AllReasoned, Forces, decisions, up_to}
-use Rattle.sat_solver.specs.Trails.{TrailState}
+use Rattle.sat_solver.specs.Entries.{IsFreeIn, IsForced, AllReasoned, Forces, decisions, up_to}
+use Rattle.sat_solver.specs.Trails.{TrailState, IsTrail, with_entry}
+use Rattle.sat_solver.specs.Lessons.{IsSecond}
+use Rattle.sat_solver.specs.Pairing.{Paired}
+use Rattle.sat_clauses.specs.ClauseLists.{without}
+use Rattle.sat_solver.proofs.PairingLemmas.{paired_learnt, learnt_clauses, second_front}
 use Rattle.sat_solver.specs.Measures.{weight}
 use Rattle.sat_solver.proofs.AlongLemmas.{at_end}
 use Rattle.sat_solver.proofs.LevelLemmas.{false_within}
 use Rattle.sat_solver.proofs.MeasureLemmas.{jump_farther}
-use Rattle.sat_solver.proofs.SearchLemmas.{reasons_later, reasons_push, reasons_take, false_vars, greatest_later}
+use Rattle.sat_solver.proofs.SearchLemmas.{reasons_later, reasons_push, reasons_take, false_vars}
 use Rattle.sat_solver.proofs.search.Search.assert.Goals as goal
 
 pub force-requires-clause-within : goal.force-requires-clause-within
@@ -19,9 +22,15 @@ force-requires-clause-within c =
     let within = false_within old.vars old.entries c.requires.search.trail.within lit (c.requires.falsified lit c.requires.asserts.forces.there) in
     (within.0, subst (λ n. lit.var ≤ n) (sym c.jump_back.ensures.vars) within.1)
 
+pub keep-requires-clause-within : goal.keep-requires-clause-within
+keep-requires-clause-within c = λ k d h.
+    let old = c.args.self.now in
+    let within = false_vars old.trail.vars old.trail.entries c.requires.search.trail.within c.args.clause.items c.requires.falsified k d h in
+    omega (arith, within.1, c.requires.search.paired.vars)
+
 -- the entry of the asserted literal
 abbrev asserted : goal.After-force → Entry
-asserted c = record { lit = c.args.assertion.lit; level = c.jump_back.new.self.level; reason = Some c.count-place.result }
+asserted c = record { lit = c.args.assertion.lit; level = c.jump_back.new.self.level; reason = Some c.args.place }
 
 entries_are : (c : goal.After-force) → c.force.new.self.entries ≡ c.jump_back.new.self.entries ++ asserted c ∷ []
 entries_are c = ap (λ (t : TrailState). t.entries) c.force.ensures.forced
@@ -36,17 +45,20 @@ returns-clause-search c =
     let clauses = old.store.clauses ++ clause ∷ [] in
     let jumped = c.jump_back.new.self.entries in
     let now = c.force.new.self in
-    let kept : c.push.new.self.clauses ≡ clauses = c.in_ok-push.ensures.ok in
+    let kept : c.keep.new.store.clauses ≡ clauses = learnt_clauses old.store c.keep.new.store clause c.args.assertion.lit c.args.assertion.second c.in_ok-keep.ensures.learns in
     let before : AllReasoned clauses jumped = subst (AllReasoned clauses) (sym c.jump_back.ensures.prefix) (reasons_take clauses (length jumped) old.trail.entries (reasons_later old.store.clauses clause old.trail.entries c.requires.search.reasons)) in
-    let there : slice_get clauses c.count-place.result ≡ Some clause = ap (slice_get clauses) c.count-place.ensures ∙ at_end old.store.clauses clause in
+    let there : slice_get clauses c.args.place ≡ Some clause = ap (slice_get clauses) c.requires.place ∙ at_end old.store.clauses clause in
     let forces : Forces jumped clause c.args.assertion.lit = subst (λ es. Forces es clause c.args.assertion.lit) (sym c.jump_back.ensures.entries) c.requires.asserts.forces in
-    let forced : IsForced clauses jumped (asserted c) = record { place = c.count-place.result; clause = clause; reason = refl; found = there; forces = forces } in
+    let forced : IsForced clauses jumped (asserted c) = record { place = c.args.place; clause = clause; reason = refl; found = there; forces = forces } in
     let reasons : AllReasoned clauses (jumped ++ asserted c ∷ []) = reasons_push clauses jumped (asserted c) before (λ _. forced) in
-    let within = false_vars old.trail.vars old.trail.entries c.requires.search.trail.within clause c.requires.falsified in
+    let after : TrailState = c.jump_back.new.self in
+    let free : IsFreeIn after.entries c.args.assertion.lit = subst (λ es. IsFreeIn es c.args.assertion.lit) (sym c.jump_back.ensures.entries) c.requires.asserts.free in
+    let second : IsSecond after.entries (without clause c.args.assertion.lit) after.level c.args.assertion.second = subst (λ n. IsSecond after.entries (without clause c.args.assertion.lit) n c.args.assertion.second) (sym c.jump_back.ensures.level) (second_front old.trail.entries after.entries (length after.entries) (without clause c.args.assertion.lit) c.args.assertion.level c.args.assertion.second c.jump_back.ensures.prefix c.requires.second) in
+    let paired : Paired (with_entry after (asserted c)) c.keep.new.store = paired_learnt after old.store c.keep.new.store clause c.args.assertion.lit c.args.assertion.second (asserted c) (c.jump_back.ensures.paired old.store c.requires.search.paired) c.in_ok-keep.ensures.watching c.in_ok-keep.ensures.learns refl refl free second (subst IsTrail c.force.ensures.forced c.force.ensures.trail) in
     record {
       trail = c.force.ensures.trail;
       reasons = subst (λ cs. AllReasoned cs now.entries) (sym kept) (subst (AllReasoned clauses) (sym (entries_are c)) reasons);
-      paired = vars_are c ∙ greatest_later old.store.clauses clause old.trail.vars c.requires.search.paired within ∙ ap greatest_var (sym kept);
+      paired = subst (λ t. Paired t c.keep.new.store) (sym c.force.ensures.forced) paired;
       queue = subst (λ n. IsQueue n old.queue) (sym (vars_are c)) c.requires.search.queue;
     }
 

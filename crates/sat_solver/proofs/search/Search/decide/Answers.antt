@@ -1,7 +1,6 @@
-use Rattle.std.proofs.Common.{◌≡◌, ◌<◌, ◌+◌, true, Option, Some, None, IfSome, IfNone, is_some, length, refl, sym, subst, ◌∙◌, arith}
+use Rattle.std.proofs.Common.{◌<◌, ◌+◌, None, length, sym, subst, arith}
 use Rattle.std.proofs.lemmas.Bool.{false≢true}
 use Rattle.std.proofs.lemmas.List.{length_push}
-use Rattle.sat_clauses.specs.declared.literal.Lit.{Lit}
 use Rattle.sat_links.specs.Queues.{IsQueue}
 use Rattle.sat_solver.specs.declared.entry.Entry.{Entry}
 use Rattle.sat_solver.specs.Entries.{AllReasoned}
@@ -11,34 +10,28 @@ use Rattle.sat_solver.proofs.MeasureLemmas.{weight_push}
 use Rattle.sat_solver.proofs.SearchLemmas.{reasons_push}
 use Rattle.sat_solver.proofs.search.Search.decide.Goals as goal
 
-abbrev decision : TrailState → Lit → Entry
-decision old lit = record { lit = lit; level = old.level + 1; reason = None }
-
--- the trail is as before, or has a decision more
-opened_or_same : (P : TrailState → Type 0) (old new : TrailState) (o : Option Lit) → IfSome o (λ lit. new ≡ with_entry old (decision old lit)) → IfNone o (new ≡ old) → P old → ((lit : Lit) → P (with_entry old (decision old lit))) → P new
-opened_or_same P old new None opened same first second = subst P (sym same) first
-opened_or_same P old new (Some lit) opened same first second = subst P (sym opened) (second lit)
+-- the decision
+abbrev decision : goal.After-decide_literal → Entry
+decision c = record { lit = c.in-Some.lit; level = c.args.self.now.trail.level + 1; reason = None }
 
 pub returns-clause-search : goal.returns-clause-search
 returns-clause-search c =
     let old = c.args.self.now in
-    let now = c.decide.new.self in
-    let vars : now.vars ≡ old.trail.vars = opened_or_same (λ t. t.vars ≡ old.trail.vars) old.trail now c.decide.result c.decide.ensures.opened c.decide.ensures.unchanged refl (λ lit. refl) in
+    let now = c.decide_literal.new.self in
+    let entry = decision c in
+    let is = c.decide_literal.ensures.opened in
     record {
-      trail = c.decide.ensures.trail;
-      reasons = opened_or_same (λ t. AllReasoned old.store.clauses t.entries) old.trail now c.decide.result c.decide.ensures.opened c.decide.ensures.unchanged c.requires.reasons (λ lit. reasons_push old.store.clauses old.trail.entries (decision old.trail lit) c.requires.reasons (λ some. absurd (false≢true some)));
-      paired = vars ∙ c.requires.paired;
-      queue = subst (λ n. IsQueue n old.queue) (sym vars) c.requires.queue;
+      trail = c.decide_literal.ensures.trail;
+      reasons = subst (λ (t : TrailState). AllReasoned old.store.clauses t.entries) (sym is) (reasons_push old.store.clauses old.trail.entries entry c.requires.search.reasons (λ some. absurd (false≢true some)));
+      paired = c.decide_literal.ensures.paired old.store c.requires.search.paired c.requires.worked;
+      queue = subst (λ (t : TrailState). IsQueue t.vars old.queue) (sym is) c.requires.search.queue;
     }
 
 pub returns-clause-farther : goal.returns-clause-farther
-returns-clause-farther c = λ is. by c.decide.result (sym c.is_some.ensures ∙ is) c.decide.ensures.opened
-  where
-    by : (o : Option Lit) → is_some o ≡ true → IfSome o (λ lit. c.decide.new.self ≡ with_entry c.args.self.now.trail (decision c.args.self.now.trail lit)) → weight c.args.self.now.trail.vars c.args.self.now.trail.entries < weight c.decide.new.self.vars c.decide.new.self.entries
-    by None e opened = absurd (false≢true e)
-    by (Some lit) e opened =
-        let old = c.args.self.now.trail in
-        let entry = decision old lit in
-        let trail : IsTrail (with_entry old entry) = subst IsTrail opened c.decide.ensures.trail in
-        let room : length old.entries < old.vars = omega (arith, trail.small, length_push old.entries entry) in
-        subst (λ (t : TrailState). weight old.vars old.entries < weight t.vars t.entries) (sym opened) (weight_push old.vars old.entries entry room)
+returns-clause-farther c = λ _.
+    let old = c.args.self.now.trail in
+    let entry = decision c in
+    let is = c.decide_literal.ensures.opened in
+    let trail : IsTrail (with_entry old entry) = subst IsTrail is c.decide_literal.ensures.trail in
+    let room : length old.entries < old.vars = omega (arith, trail.small, length_push old.entries entry) in
+    subst (λ (t : TrailState). weight old.vars old.entries < weight t.vars t.entries) (sym is) (weight_push old.vars old.entries entry room)

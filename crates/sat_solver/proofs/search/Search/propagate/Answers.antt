@@ -1,6 +1,5 @@
-use Rattle.std.proofs.Common.{◌≤◌, sym, ap, subst, ◌∙◌}
+use Rattle.std.proofs.Common.{◌≤◌, sym, subst}
 use Rattle.sat_links.specs.Queues.{IsQueue}
-use Rattle.sat_solver.specs.Stores.{greatest_var}
 use Rattle.sat_solver.specs.Entries.{AllReasoned}
 use Rattle.sat_solver.specs.Measures.{weight}
 use Rattle.sat_solver.proofs.MeasureLemmas.{weight_more}
@@ -15,7 +14,7 @@ returns-clause-search c =
     record {
       trail = done.trail;
       reasons = subst (λ cs. AllReasoned cs now.entries) (sym done.clauses) (reasons_extend old.store.clauses old.trail.level old.trail.entries now.entries c.requires.reasons done.extends);
-      paired = done.vars ∙ c.requires.paired ∙ ap greatest_var (sym done.clauses);
+      paired = done.paired;
       queue = subst (λ n. IsQueue n old.queue) (sym done.vars) c.requires.queue;
     }
 

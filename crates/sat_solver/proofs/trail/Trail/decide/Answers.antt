@@ -19,18 +19,21 @@ returns-in_err-var-clause-none c =
 within : (c : In_ok-var) → (1 ≤ c.in_ok-var.var) × (c.in_ok-var.var ≤ c.args.self.now.vars)
 within c = last_within c.args.self.now.vars c.args.queue.now c.requires c.values.result.now c.in_ok-var.var c.in_ok-var.ensures.last
 
-pub push-requires-clause-within : goal.push-requires-clause-within
-push-requires-clause-within c = within (goal.at.push-requires-clause-within c).In_ok-var
+pub decide_literal-requires-clause-within : goal.decide_literal-requires-clause-within
+decide_literal-requires-clause-within c = within (goal.at.decide_literal-requires-clause-within c).In_ok-var
 
-pub push-requires-clause-free : goal.push-requires-clause-free
-push-requires-clause-free c =
+pub decide_literal-requires-clause-free : goal.decide_literal-requires-clause-free
+decide_literal-requires-clause-free c =
     let vars = c.args.self.now.vars in
     let entries = c.args.self.now.entries in
     let var = c.in_ok-var.var in
-    let h = within (goal.at.push-requires-clause-free c).In_ok-var in
+    let h = within (goal.at.decide_literal-requires-clause-free c).In_ok-var in
     sym (values_at vars entries var h.0 h.1) ∙ ap (λ vs. get_or vs (var - 1) None) (sym c.values.ensures.values) ∙ c.in_ok-var.ensures.last.free
 
 pub returns-clause-none : goal.returns-clause-none
 returns-clause-none c =
     let vars = c.args.self.now.vars in
     (λ e. absurd (true≢false e), λ all. c.in_ok-var.ensures.none.1 (queue_valued vars c.args.queue.now c.requires c.values.result.now c.values.ensures.length (subst (All IsSome) (sym c.values.ensures.values) all)))
+
+pub returns-clause-paired : goal.returns-clause-paired
+returns-clause-paired c = c.decide_literal.ensures.paired

@@ -6,6 +6,7 @@ use Rattle.sat_solver.specs.Entries.{decisions, up_to}
 use Rattle.sat_solver.specs.Trails.{TrailState}
 use Rattle.sat_solver.proofs.AlongLemmas.{All-at, in_take}
 use Rattle.sat_solver.proofs.TrailLemmas.{pop_keeps, settle_keeps, jumped_entries, jumped_level, prefix_less, dropped_more}
+use Rattle.sat_solver.proofs.PairingLemmas.{paired_jump}
 use Rattle.sat_solver.proofs.trail.Trail.jump_back.Goals as goal
 use Rattle.sat_solver.proofs.trail.Trail.jump_back.Goals.{In-Some, in-Some+then-last-level, in_default}
 
@@ -88,3 +89,11 @@ returns-clause-entries c =
 
 pub returns-clause-trail : goal.returns-clause-trail
 returns-clause-trail c = (invariant_of-self c).trail
+
+-- the trail after the jump
+abbrev now_of : goal.After-self-3-1 → TrailState
+now_of c = record { vars = length c.back.self-inside.values.items; entries = c.back.self-inside.entries.items; level = c.args.level; worked = c.min-self-inside.result }
+
+pub returns-clause-paired : goal.returns-clause-paired
+returns-clause-paired c = λ store paired.
+    paired_jump c.args.self.now store (now_of c) c.args.level paired c.requires (returns-clause-entries c) (c.back.invariant.prefix ∙ ap (λ (t : TrailState). take (length c.back.self-inside.entries.items) t.entries) c.self.view_is) refl (omega (arith, c.min-self-inside.ensures, c.len.ensures, c.back.self-inside.entries.ok.0, c.back.invariant.worked, ap (λ (t : TrailState). t.worked) c.self.view_is)) (c.back.invariant.vars ∙ ap (λ (t : TrailState). t.vars) c.self.view_is) (invariant_of-self c).trail
