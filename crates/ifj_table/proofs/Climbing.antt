@@ -120,9 +120,11 @@ above_by_steps t c d e has (up {d = f} next rest) = by (bytes_eq d e) refl (abov
   where
     by : (b : Bool) → bytes_eq d e ≡ b → (o : Text) × Nearest t (directly_below e) d o e → (o : Text) × Nearest t (directly_below e) c o e
     by true is higher = (c, own has.there (below_it e has.entry (has.parent ∙ (bytes_eq-Decides d e).0 is)))
-    by false is higher =
-        (higher.0, inherited has.there (not_below e has.entry (λ same. apart (sym has.parent ∙ same)))
-        (subst (λ p. Nearest t (directly_below e) p higher.0 e) (sym has.parent) higher.1))
+    by false is higher = (
+      higher.0,
+      inherited has.there (not_below e has.entry (λ same. apart (sym has.parent ∙ same)))
+          (subst (λ p. Nearest t (directly_below e) p higher.0 e) (sym has.parent) higher.1),
+    )
       where
         apart : d ≡ e → ⊥
         apart same = let told = (bytes_eq-Decides d e).1 same in absurd cc

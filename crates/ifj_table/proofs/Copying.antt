@@ -67,7 +67,7 @@ same_expression : (names later : List Text) (first other : ℕ) (t s : Tree Expr
     → map (label later) (nodes t) ≡ map (label names) (nodes s) → in_form (expr_form later) t ≡ in_form (expr_form names) s
 same_expression names later first other t s full whole same =
     let labelled = same_from_nodes count_of 0 (in_form (label later) t) (in_form (label names) s) (labels_full later first 0 t full) (labels_full names other 0 s whole)
-        (nodes_in_form (label later) t ∙ same ∙ sym (nodes_in_form (label names) s)) in
+    (nodes_in_form (label later) t ∙ same ∙ sym (nodes_in_form (label names) s)) in
     sym (form_of_labels later t) ∙ ap (in_form form_of) labelled ∙ form_of_labels names s
 
 -- ---- the nodes of the expression that is copied
@@ -186,8 +186,7 @@ module _ (from : List Text) (exprs : List ExprNode) (root number : ℕ) (names l
       let so_far = length-take (number - first_number root done.tree) (nodes done.tree) in
       let added : length done.filled.added ≡ length (take (number - first_number root done.tree) (nodes done.tree)) =
       sym (length-map done.filled.added (label later)) ∙ ap length done.filled.same ∙ length-map (take (number - first_number root done.tree) (nodes done.tree)) (label from) in
-      let whole : size (plain_expr from exprs root) ≡ length (nodes done.tree) = ap (λ o. size (unwrap_or (option_map (in_form (expr_form from)) o) (null_at 0))) done.at ∙ size_of_form from done.tree in
-      (
+      let whole : size (plain_expr from exprs root) ≡ length (nodes done.tree) = ap (λ o. size (unwrap_or (option_map (in_form (expr_form from)) o) (null_at 0))) done.at ∙ size_of_form from done.tree in (
         omega (arith, done.filled.few, so_far, many, done.below),
         omega (arith, ap length done.filled.all, length-append old done.filled.added, added, so_far, many, done.below),
         omega (arith, whole, many, done.below),
@@ -203,10 +202,9 @@ module _ (from : List Text) (exprs : List ExprNode) (root number : ℕ) (names l
       let many = as_many_nodes exprs root done.tree done.at in
       let all : take (number - first_number root done.tree) (nodes done.tree) ≡ nodes done.tree = take_all (number - first_number root done.tree) (nodes done.tree) (omega arith) in
       let filled = subst (λ ns. Filled label IsExprNode (label from) ns names later old new own) all done.filled in
-      let t = filled_all expr_arity label IsExprNode (label from) count_of weighs stays expr_node_later (nodes done.tree) names later old new own order filled in
-      (
+      let t = filled_all expr_arity label IsExprNode (label from) count_of weighs stays expr_node_later (nodes done.tree) names later old new own order filled in (
         ap (λ o. unwrap_or (option_map (in_form (expr_form later)) o) (null_at 0)) t.1
-        ∙ same_expression from later 0 (first_number root done.tree) t.0 done.tree t.3 done.full t.2
-        ∙ ap (λ o. unwrap_or (option_map (in_form (expr_form from)) o) (null_at 0)) (sym done.at),
+            ∙ same_expression from later 0 (first_number root done.tree) t.0 done.tree t.3 done.full t.2
+            ∙ ap (λ o. unwrap_or (option_map (in_form (expr_form from)) o) (null_at 0)) (sym done.at),
         t.4,
       )

@@ -3,6 +3,7 @@ use Rattle.std.proofs.Common.{◌≡◌, ◌≢◌, ℕ, suc, ◌<◌, Bool, tru
 use Rattle.std.specs.Prelude.{All, IsSome, IfSome, OnOk, OnErr, IsTrue, length}
 use Rattle.std.specs.List.{insert, remove}
 use Rattle.std.specs.Str.{bytes_eq}
+use Rattle.std.specs.Option.{option_and_then}
 use Rattle.std.specs.FinMap as finite
 use Rattle.std.specs.FinMap.{get, from_entries}
 use Rattle.std.specs.declared.result.Result.{Result}
@@ -42,6 +43,11 @@ method_key names m = text_at names m.spot
 pub if_some : {X : Type 0} (P : X → Type 0) (o : Option X) (x : X) → o ≡ Some x → IfSome o P → P x
 if_some P None x e h = absurd cc
 if_some P (Some y) x e h = let same : y ≡ x = cc in subst P same h
+
+-- what a step after an option says, where the option has something
+pub behind : {X Y : Type 0} (f : X → Option Y) (o : Option X) (x : X) → o ≡ Some x → option_and_then f o ≡ f x
+behind f None x e = absurd cc
+behind f (Some y) x e = let same : y ≡ x = cc in ap f same
 
 -- what an option that has something has
 pub some_value : {X : Type 0} (o : Option X) → IsSome o → (x : X) × (o ≡ Some x)
@@ -219,8 +225,7 @@ module _ (names : List Text) (exprs : List ExprNode) (c : ClassEntry) (is : IsCl
       let was = all_at (IsMethodEntry names exprs) c.methods.items same.at same.old is.methods same.stood in
       let now = method_is names exprs same.old same.new was same.result_is same.spot_is same.types_are same.bodies_are in
       let reads = plain_same names exprs same.old same.new same.result_is same.spot_is same.types_are same.bodies_are in
-      let pair : MethodEntry → Text × calculus.MethodEntry = λ m. (method_key names m, plain_method names exprs m) in
-      (
+      let pair : MethodEntry → Text × calculus.MethodEntry = λ m. (method_key names m, plain_method names exprs m) in (
         (
           subst (All (IsMethodEntry names exprs)) (sym same.stands) (All-set (IsMethodEntry names exprs) c.methods.items same.at same.new now is.methods),
           subst (λ ms. AreRising (map (method_key names) ms)) (sym same.stands) (keys_set (method_key names) c.methods.items same.at same.old same.new same.stood key is.rising_methods),
@@ -258,12 +263,11 @@ module _ (names : List Text) (exprs : List ExprNode) (c : ClassEntry) (is : IsCl
       ∙ ap₂ (λ at signature. record { at = at; signature = signature; bodies = map (plain_body names exprs) (old.bodies.items ++ body ∷ []) }) (ap (λ (x : plain.Spot). x.at) spot_is)
       (ap₂ (λ ps r. record { parameters = ps; result = r }) types_are result_is)
       ∙ ap (λ bs. record { at = m.name.at; signature = signature_of m; bodies = bs })
-      (map-append (plain_body names exprs) old.bodies.items (body ∷ []) ∙ ap₂ (λ xs x. xs ++ x ∷ []) (ap (λ (e : calculus.MethodEntry). e.bodies) entry_is) body_is) in
-      (
+      (map-append (plain_body names exprs) old.bodies.items (body ∷ []) ∙ ap₂ (λ xs x. xs ++ x ∷ []) (ap (λ (e : calculus.MethodEntry). e.bodies) entry_is) body_is) in (
         (
           subst (All (IsMethodEntry names exprs)) (sym again.stands) (All-set (IsMethodEntry names exprs) c.methods.items again.at new now is.methods),
           subst (λ ms. AreRising (map (method_key names) ms)) (sym again.stands) (keys_set (method_key names) c.methods.items again.at old new again.stood (new_key ∙ sym again.named) is.rising_methods),
         ),
         ap (methods_of names exprs) again.stands ∙ set_at (method_key names) (plain_method names exprs) c.methods.items again.at old new is.rising_methods again.stood (new_key ∙ sym again.named)
-        ∙ ap₂ (λ k x. finite.insert (methods_of names exprs c.methods.items) k x) new_key reads,
+            ∙ ap₂ (λ k x. finite.insert (methods_of names exprs c.methods.items) k x) new_key reads,
       )

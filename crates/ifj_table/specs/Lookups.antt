@@ -1,5 +1,7 @@
 -- What a search for a member finds.
-use Rattle.std.specs.Prelude.{◌≡◌, ◌<◌, ℕ, length, slice_get, Some}
+use Rattle.std.specs.Prelude.{◌≡◌, ◌<◌, ℕ, length, slice_get, Option, Some}
+use Rattle.std.specs.Option.{option_and_then}
+use Rattle.std.specs.FinMap.{get}
 use Rattle.dj_names.specs.Texts.{Text}
 use Rattle.dj_calculus.specs.Subclasses.{NearestField, NearestMethod}
 use Rattle.dj_calculus.specs.Tables as calculus
@@ -16,6 +18,13 @@ pub record IsClassNamed (t : Table) (name : Text) (class : ClassEntry) : Type 0 
   pub number : ℕ
   pub stands : slice_get (table_classes t) number ≡ Some class
   pub named : text_at (table_names t) class.spot ≡ name
+
+-- what a class of the table itself has
+abbrev pub own_field : calculus.Table → Text → Text → Option calculus.FieldEntry
+own_field t class field = option_and_then (λ c. get c.fields field) (get t class)
+
+abbrev pub own_method : calculus.Table → Text → Text → Option calculus.MethodEntry
+own_method t class method = option_and_then (λ c. get c.methods method) (get t class)
 
 -- the field of this name that the class has or inherits: its owner, and its number there
 pub record IsFoundField (t : Table) (class field : Text) (found : Found) : Type 0 where

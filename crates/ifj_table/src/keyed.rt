@@ -69,7 +69,11 @@ pub fn gap<E: Keyed>(names: &Names, entries: &[E], text: &str) -> usize
 }
 
 /// Puts an entry whose name has none yet in its order. Without memory the entries stay.
-pub fn insert_entry<E: Keyed + Drop>(names: &Names, entries: &mut Vec<E>, entry: E) -> Result<(), NoMemory>
+pub fn insert_entry<E: Keyed + Drop>(
+    names: &Names,
+    entries: &mut Vec<E>,
+    entry: E,
+) -> Result<(), NoMemory>
     requires known { All (λ e. IsKnown names.now (E.key_of e)) entries.old.items }
     requires rising { AreRising (map (λ e. text_at names.now (E.key_of e)) entries.old.items) }
     requires own { IsKnown names.now (E.key_of entry) }

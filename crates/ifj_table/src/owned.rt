@@ -37,7 +37,11 @@ impl Table {
     ghost use Rattle.ifj_table.specs.Changes.{names_said};
 
     // The same parameters, in the table's own names.
-    fn own_parameters(&mut self, from: &Names, parameters: &[FieldDecl]) -> Result<OwnParameters, NoMemory>
+    fn own_parameters(
+        &mut self,
+        from: &Names,
+        parameters: &[FieldDecl],
+    ) -> Result<OwnParameters, NoMemory>
         requires known { All (IsField from.now) parameters.now }
         requires room { length (table_names self.old) + 2 * length parameters.now < 2 ^ 32 }
         ensures types { IfOk result (λ own. map (plain_spot (table_names self.new)) own.types.items ≡ map (λ p. plain_spot from.now p.kind) parameters.now) }
@@ -61,7 +65,7 @@ impl Table {
     }
 
     // The same declaration, with its body copied.
-    pub(crate) fn own_method(
+    pub(crate) fn own_declaration(
         &mut self,
         from: &Names,
         method: &Method,

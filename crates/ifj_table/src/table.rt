@@ -87,7 +87,7 @@ impl Table {
         requires { class.0 < length (table_names self.now) }
         ensures found { MatchOption result (map.get (plain_table self.now) (name_text self.now class.0) ≡ None)
             (λ entry. map.get (plain_table self.now) (name_text self.now class.0)
-                ≡ Some (plain_class (table_names self.now) (table_nodes self.now) entry.now)) }
+            ≡ Some (plain_class (table_names self.now) (table_nodes self.now) entry.now)) }
         ensures class { IfSome result (λ entry. IsClassNamed self.now (name_text self.now class.0) entry.now) }
     {
         self.class_named(self.names.text(class))

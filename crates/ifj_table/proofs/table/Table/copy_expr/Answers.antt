@@ -28,12 +28,11 @@ returns-in_err-own-clause-few_nodes c =
     omega (arith, few.1, few.2, ap length c.in_err-own.ensures.err)
 
 pub loop-number-preserved : goal.loop-number-preserved
-loop-number-preserved c =
-    (
-      copied_next c.args.from.now c.args.exprs.now c.args.root.0 c.loop-number.number c.args.self.now.names c.loop-number.self.names c.args.self.now.exprs c.loop-number.self.exprs c.loop-number.own.0 c.loop-number.invariant.0 c.get.result.now c.copy_node.new.self.names c.copy_node.new.self.exprs c.in_ok-own.own.0 c.loop-number-test.true c.get.ensures.node c.copy_node.ensures.numbers c.copy_node.ensures.few c.in_ok-own.ensures.number c.in_ok-own.ensures.node,
-      c.copy_node.ensures.table ∙ c.loop-number.invariant.1,
-      c.copy_node.ensures.classes ∙ c.loop-number.invariant.2,
-    )
+loop-number-preserved c = (
+  copied_next c.args.from.now c.args.exprs.now c.args.root.0 c.loop-number.number c.args.self.now.names c.loop-number.self.names c.args.self.now.exprs c.loop-number.self.exprs c.loop-number.own.0 c.loop-number.invariant.0 c.get.result.now c.copy_node.new.self.names c.copy_node.new.self.exprs c.in_ok-own.own.0 c.loop-number-test.true c.get.ensures.node c.copy_node.ensures.numbers c.copy_node.ensures.few c.in_ok-own.ensures.number c.in_ok-own.ensures.node,
+  c.copy_node.ensures.table ∙ c.loop-number.invariant.1,
+  c.copy_node.ensures.classes ∙ c.loop-number.invariant.2,
+)
 
 pub returns-clause-tree : goal.returns-clause-tree
 returns-clause-tree c = (copied_all c.args.from.now c.args.exprs.now c.args.root.0 c.loop-number.number c.args.self.now.names c.loop-number.self.names c.args.self.now.exprs c.loop-number.self.exprs c.loop-number.own.0 c.loop-number.invariant.0 (omega (arith, c.loop-number-test.false, c.loop-number.invariant.0.below))).0

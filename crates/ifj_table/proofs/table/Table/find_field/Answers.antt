@@ -55,8 +55,7 @@ up-preserved c =
     let t = c.args.self.now in
     let class = c.in-Some.entry.now in
     let is = entry_held t (name_text t c.up.at.0) class c.in-Some.ensures.class in
-    let gap = subst (λ es. IsGap (map (field_key t.names) es) c.text-text.result.now c.in-Err.field-0) c.as_slice.ensures.value c.in-Err.ensures in
-    (
+    let gap = subst (λ es. IsGap (map (field_key t.names) es) c.text-text.result.now c.in-Err.field-0) c.as_slice.ensures.value c.in-Err.ensures in (
       is.parent,
       climbs_past t (λ entry. get entry.fields c.text-text.result.now) (name_text t c.args.class.0) (name_text t c.up.at.0) c.up._turn c.up.invariant.1 class c.in-Some.ensures.found
           (missing_in_gap (field_key t.names) (plain_field t.names) class.fields.items c.text-text.result.now c.in-Err.field-0 gap),

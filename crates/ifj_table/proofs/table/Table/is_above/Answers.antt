@@ -14,16 +14,14 @@ returns-in-None c =
 pub returns-then-eq : goal.returns-then-eq
 returns-then-eq c =
     let t = c.args.self.now in
-    let same = ap (λ o. unwrap_or o []) c.text.ensures ∙ (bytes_eq-Decides c.text.result.now c.args.upper.now).0 (sym c.if-eq.ensures) in
-    (
+    let same = ap (λ o. unwrap_or o []) c.text.ensures ∙ (bytes_eq-Decides c.text.result.now c.args.upper.now).0 (sym c.if-eq.ensures) in (
       λ e. is_above_here t c.args.upper.now (name_text t c.args.lower.0) (name_text t c.up.at.0) c.up._turn c.up.invariant.1 (name_text t c.in-Some.parent.0) c.in-Some.ensures.found same,
       λ above. refl,
     )
 
 pub up-preserved : goal.up-preserved
 up-preserved c =
-    let t = c.args.self.now in
-    (
+    let t = c.args.self.now in (
       c.in-Some.ensures.known,
       climbs t c.args.upper.now (name_text t c.args.lower.0) (name_text t c.up.at.0) c.up._turn c.up.invariant.1 (name_text t c.in-Some.parent.0) c.in-Some.ensures.found
           (λ same. let equal = (bytes_eq-Decides c.text.result.now c.args.upper.now).1 (sym (ap (λ o. unwrap_or o []) c.text.ensures) ∙ same) in absurd (false≢true (c.if-eq.ensures ∙ equal))),

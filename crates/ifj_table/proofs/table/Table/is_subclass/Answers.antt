@@ -27,8 +27,7 @@ pub returns : goal.returns
 returns c =
     let t = c.args.self.now in
     let lower = ap (λ o. unwrap_or o []) c.text.ensures in
-    let upper = ap (λ o. unwrap_or o []) c.text-text.ensures in
-    (
+    let upper = ap (λ o. unwrap_or o []) c.text-text.ensures in (
       λ e. above (name_text t c.args.lower.0) (name_text t c.args.upper.0) (subst (Above (plain_table t) (name_text t c.args.lower.0)) (sym upper) (c.is_above.ensures.0 e)),
       λ below. either (below_cases (plain_table t) (class_kind (name_text t c.args.lower.0)) (class_kind (name_text t c.args.upper.0)) (name_text t c.args.lower.0) (name_text t c.args.upper.0) below refl refl)
           (λ equal. let told = (bytes_eq-Decides c.text.result.now c.text-text.result.now).1 (sym lower ∙ equal ∙ upper) in absurd (false≢true (c.if-eq.ensures ∙ told)))
