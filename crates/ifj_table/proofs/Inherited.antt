@@ -10,7 +10,7 @@ use Rattle.ifj_table.specs.Sorted.{AreRising, IsGap, map_of}
 use Rattle.ifj_table.specs.Entries.{text_at, plain_class}
 use Rattle.ifj_table.specs.Tables.{plain_table, class_keys, name_text}
 use Rattle.ifj_table.specs.Held.{IsClassEntry}
-use Rattle.ifj_table.specs.Lookups.{IsClassOf}
+use Rattle.ifj_table.specs.Lookups.{IsClassNamed}
 use Rattle.ifj_table.specs.declared.entry.ClassEntry.{ClassEntry}
 use Rattle.ifj_table.specs.declared.table.Table.{Table}
 use Rattle.ifj_table.proofs.EntryMaps.{got_at, missing_in_gap}
@@ -19,7 +19,7 @@ use Rattle.ifj_table.proofs.Superclasses.{among_keys, as_many_keys}
 use Rattle.ifj_table.proofs.Climbing.{Climbed, climbed_more, found_here, none_past, none_at_all}
 
 -- an entry that a look-up gave is one of the table
-pub entry_held : (t : Table) (name : ℕ) (class : ClassEntry) → IsClassOf t name class → IsClassEntry t.names t.exprs class
+pub entry_held : (t : Table) (name : Text) (class : ClassEntry) → IsClassNamed t name class → IsClassEntry t.names t.exprs class
 entry_held t name class is = all_at (IsClassEntry t.names t.exprs) t.classes.items is.number class t.held.each is.stands
 
 module _ {X : Type 0} (t : Table) (member : calculus.ClassEntry → Option X) (from to : Text) (count : ℕ) (climbed : Climbed (plain_table t) member count from to) where

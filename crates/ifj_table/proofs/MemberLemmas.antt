@@ -3,6 +3,7 @@ use Rattle.std.proofs.Common.{◌≡◌, ◌≢◌, ℕ, suc, ◌<◌, Bool, tru
 use Rattle.std.specs.Prelude.{All, IsSome, IfSome, OnOk, OnErr, IsTrue, length}
 use Rattle.std.specs.List.{insert, remove}
 use Rattle.std.specs.Str.{bytes_eq}
+use Rattle.std.specs.Option.{option_and_then}
 use Rattle.std.specs.FinMap as finite
 use Rattle.std.specs.FinMap.{get, from_entries}
 use Rattle.std.specs.declared.result.Result.{Result}
@@ -42,6 +43,11 @@ method_key names m = text_at names m.spot
 pub if_some : {X : Type 0} (P : X → Type 0) (o : Option X) (x : X) → o ≡ Some x → IfSome o P → P x
 if_some P None x e h = absurd cc
 if_some P (Some y) x e h = let same : y ≡ x = cc in subst P same h
+
+-- what a step after an option says, where the option has something
+pub behind : {X Y : Type 0} (f : X → Option Y) (o : Option X) (x : X) → o ≡ Some x → option_and_then f o ≡ f x
+behind f None x e = absurd cc
+behind f (Some y) x e = let same : y ≡ x = cc in ap f same
 
 -- what an option that has something has
 pub some_value : {X : Type 0} (o : Option X) → IsSome o → (x : X) × (o ≡ Some x)

@@ -1,5 +1,7 @@
 -- What a search for a member finds.
-use Rattle.std.specs.Prelude.{◌≡◌, ◌<◌, ℕ, length, slice_get, Some}
+use Rattle.std.specs.Prelude.{◌≡◌, ◌<◌, ℕ, length, slice_get, Option, Some}
+use Rattle.std.specs.Option.{option_and_then}
+use Rattle.std.specs.FinMap.{get}
 use Rattle.dj_names.specs.Texts.{Text}
 use Rattle.dj_calculus.specs.Subclasses.{NearestField, NearestMethod}
 use Rattle.dj_calculus.specs.Tables as calculus
@@ -11,25 +13,33 @@ use Rattle.ifj_table.specs.declared.entry.ClassEntry.{ClassEntry}
 use Rattle.ifj_table.specs.declared.table.Table.{Table}
 use Rattle.ifj_table.specs.declared.lookups.Found.{Found}
 
--- an entry of the table is the class of a name
-pub record IsClassOf (t : Table) (name : ℕ) (class : ClassEntry) : Type 0 where
-  pub known : name < length (table_names t)
+-- an entry of the table is its class of this name
+pub record IsClassNamed (t : Table) (name : Text) (class : ClassEntry) : Type 0 where
   pub number : ℕ
   pub stands : slice_get (table_classes t) number ≡ Some class
-  pub named : text_at (table_names t) class.spot ≡ name_text t name
+  pub named : text_at (table_names t) class.spot ≡ name
+
+-- what a class of the table itself has
+abbrev pub own_field : calculus.Table → Text → Text → Option calculus.FieldEntry
+own_field t class field = option_and_then (λ c. get c.fields field) (get t class)
+
+abbrev pub own_method : calculus.Table → Text → Text → Option calculus.MethodEntry
+own_method t class method = option_and_then (λ c. get c.methods method) (get t class)
 
 -- the field of this name that the class has or inherits: its owner, and its number there
 pub record IsFoundField (t : Table) (class field : Text) (found : Found) : Type 0 where
+  pub known : found.owner.0 < length (table_names t)
   pub owner : ClassEntry
-  pub is_owner : IsClassOf t found.owner.0 owner
+  pub is_owner : IsClassNamed t (name_text t found.owner.0) owner
   pub entry : FieldEntry
   pub stands : slice_get owner.fields.items found.place ≡ Some entry
   pub named : text_at (table_names t) entry.spot ≡ field
   pub nearest : NearestField (plain_table t) class field (name_text t found.owner.0) (plain_field (table_names t) entry)
 
 pub record IsFoundMethod (t : Table) (class method : Text) (found : Found) : Type 0 where
+  pub known : found.owner.0 < length (table_names t)
   pub owner : ClassEntry
-  pub is_owner : IsClassOf t found.owner.0 owner
+  pub is_owner : IsClassNamed t (name_text t found.owner.0) owner
   pub entry : MethodEntry
   pub stands : slice_get owner.methods.items found.place ≡ Some entry
   pub named : text_at (table_names t) entry.spot ≡ method

@@ -5,10 +5,11 @@ use crate::table::Table;
 use std::alloc::AllocError as NoMemory;
 
 impl Table {
-    ghost use Rattle.std.specs.Prelude.{◌≡◌, ◌+◌, ◌^◌, ◌<◌, ◌≤◌, None, length, IsSome, IfSome, OnOk, OnErr};
+    ghost use Rattle.std.specs.Prelude.{◌≡◌, ◌+◌, ◌^◌, ◌<◌, ◌≤◌, None, length, IsSome, OnOk, OnErr};
     ghost use Rattle.std.specs.FinMap as map;
     ghost use Rattle.dj_names.specs.Texts.{Extends};
     ghost use Rattle.ifj_table.specs.Tables.{plain_table, table_names, table_nodes};
+    ghost use Rattle.ifj_table.specs.Lookups.{own_field};
     ghost use Rattle.ifj_table.specs.Changes.{changed_at, with_field, without_field};
 
     /// Adds a field of the type `kind` to a class that is there and has no field of this name. `at` and `kind_at` are
@@ -23,7 +24,7 @@ impl Table {
         kind_at: u32,
     ) -> Result<(), NoMemory>
         requires there { IsSome (map.get (plain_table self.old) class.now) }
-        requires absent { IfSome (map.get (plain_table self.old) class.now) (λ c. map.get c.fields field.now ≡ None) }
+        requires absent { own_field (plain_table self.old) class.now field.now ≡ None }
         requires room { length (table_names self.old) + 2 < 2 ^ 32 }
         ensures added { OnOk result (plain_table self.new ≡ changed_at (plain_table self.old) class.now
             (with_field field.now (record { at = at; kind = record { text = kind.now; at = kind_at } }))) }
@@ -42,7 +43,7 @@ impl Table {
     /// Takes a field that is there out of a class. It takes no memory.
     pub fn remove_field(&mut self, class: &str, field: &str)
         requires there { IsSome (map.get (plain_table self.old) class.now) }
-        requires field_there { IfSome (map.get (plain_table self.old) class.now) (λ c. IsSome (map.get c.fields field.now)) }
+        requires field_there { IsSome (own_field (plain_table self.old) class.now field.now) }
         ensures removed { plain_table self.new ≡ changed_at (plain_table self.old) class.now (without_field field.now) }
         ensures nodes { table_nodes self.new ≡ table_nodes self.old }
         ensures names { table_names self.new ≡ table_names self.old }

@@ -13,3 +13,6 @@ mod table;
 pub use entry::{Body, ClassEntry, FieldEntry, MethodEntry};
 pub use lookups::Found;
 pub use table::Table;
+
+#[cfg(test)]
+mod tests;

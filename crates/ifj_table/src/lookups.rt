@@ -1,4 +1,5 @@
 //! Members that a class has or inherits, and which class is below which.
+use crate::entry::{FieldEntry, MethodEntry};
 use crate::keyed::search;
 use crate::table::Table;
 use dj_names::Name;
@@ -11,10 +12,42 @@ pub struct Found {
 }
 
 impl Table {
-    ghost use Rattle.std.specs.Prelude.{◌<◌, length, MatchOption, Decides};
+    ghost use Rattle.std.specs.Prelude.{◌≡◌, ◌<◌, None, Some, length, MatchOption, Decides};
     ghost use Rattle.dj_calculus.specs.Subclasses.{class_kind, Below, Above};
-    ghost use Rattle.ifj_table.specs.Tables.{plain_table, table_names, name_text};
-    ghost use Rattle.ifj_table.specs.Lookups.{IsFoundField, IsFoundMethod, HasNoField, HasNoMethod};
+    ghost use Rattle.ifj_table.specs.Entries.{plain_field, plain_method};
+    ghost use Rattle.ifj_table.specs.Tables.{plain_table, table_names, table_nodes, name_text};
+    ghost use Rattle.ifj_table.specs.Lookups.{own_field, own_method, IsFoundField, IsFoundMethod, HasNoField, HasNoMethod};
+
+    /// The field of this name that the class of this name has itself. `None` where it has none, and where there is no
+    /// such class.
+    pub fn own_field(&self, class: &str, field: &str) -> Option<&FieldEntry>
+        ensures { MatchOption result (own_field (plain_table self.now) class.now field.now ≡ None)
+            (λ entry. own_field (plain_table self.now) class.now field.now ≡ Some (plain_field (table_names self.now) entry.now)) }
+    {
+        let entry = match self.class_named(class) {
+            Some(entry) => entry,
+            None => return None,
+        };
+        match search(&self.names, entry.fields.as_slice(), field) {
+            Ok(at) => Some(&entry.fields[at]),
+            Err(_) => None,
+        }
+    }
+
+    /// The method of this name that the class of this name has itself, likewise.
+    pub fn own_method(&self, class: &str, method: &str) -> Option<&MethodEntry>
+        ensures { MatchOption result (own_method (plain_table self.now) class.now method.now ≡ None)
+            (λ entry. own_method (plain_table self.now) class.now method.now ≡ Some (plain_method (table_names self.now) (table_nodes self.now) entry.now)) }
+    {
+        let entry = match self.class_named(class) {
+            Some(entry) => entry,
+            None => return None,
+        };
+        match search(&self.names, entry.methods.as_slice(), method) {
+            Ok(at) => Some(&entry.methods[at]),
+            Err(_) => None,
+        }
+    }
 
     /// The field of this name that a class has or inherits: that of the nearest class, from the class on up. `None`
     /// where no class on the chain has one, however the chain goes on. It takes no memory.

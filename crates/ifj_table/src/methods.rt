@@ -27,6 +27,7 @@ impl Table {
     ghost use Rattle.ifj_table.specs.Entries.{plain_method as plain_kept, text_at};
     ghost use Rattle.ifj_table.specs.Held.{IsMethodEntry};
     ghost use Rattle.ifj_table.specs.Tables.{plain_table, table_names, table_nodes, table_classes};
+    ghost use Rattle.ifj_table.specs.Lookups.{own_method};
     ghost use Rattle.ifj_table.specs.Changes.{changed_at, with_method, without_method, with_body, names_said};
 
     // The entry of a declaration, with its body alone.
@@ -50,7 +51,7 @@ impl Table {
         ensures few_names { length (table_names self.new) ≤ length (table_names self.old) + names_said (plain_method from.now exprs.now method.now) }
         ensures few_nodes { length (table_nodes self.new) ≤ length (table_nodes self.old) + size (plain_method from.now exprs.now method.now).body }
     {
-        let own = self.own_method(from, method, exprs)?;
+        let own = self.own_declaration(from, method, exprs)?;
         let OwnMethod {
             result,
             spot,
@@ -78,8 +79,7 @@ impl Table {
         exprs: &Arena<ExprNode>,
     ) -> Result<(), NoMemory>
         requires there { IsSome (finite.get (plain_table self.old) class.now) }
-        requires absent { IfSome (finite.get (plain_table self.old) class.now)
-            (λ c. finite.get c.methods (plain_method from.now exprs.now method.now).name.text ≡ None) }
+        requires absent { own_method (plain_table self.old) class.now (plain_method from.now exprs.now method.now).name.text ≡ None }
         requires known { IsMethod from.now exprs.now method.now }
         requires nodes_known { All (IsExprNode from.now) exprs.now }
         requires expression { IsExpression (plain_method from.now exprs.now method.now).body }
@@ -108,8 +108,7 @@ impl Table {
         exprs: &Arena<ExprNode>,
     ) -> Result<(), NoMemory>
         requires there { IsSome (finite.get (plain_table self.old) class.now) }
-        requires method_there { IfSome (finite.get (plain_table self.old) class.now)
-            (λ c. IsSome (finite.get c.methods (plain_method from.now exprs.now method.now).name.text)) }
+        requires method_there { IsSome (own_method (plain_table self.old) class.now (plain_method from.now exprs.now method.now).name.text) }
         requires known { IsMethod from.now exprs.now method.now }
         requires nodes_known { All (IsExprNode from.now) exprs.now }
         requires expression { IsExpression (plain_method from.now exprs.now method.now).body }
@@ -132,7 +131,7 @@ impl Table {
     /// Takes a method that is there out of a class, with its bodies. It takes no memory.
     pub fn remove_method(&mut self, class: &str, method: &str)
         requires there { IsSome (finite.get (plain_table self.old) class.now) }
-        requires method_there { IfSome (finite.get (plain_table self.old) class.now) (λ c. IsSome (finite.get c.methods method.now)) }
+        requires method_there { IsSome (own_method (plain_table self.old) class.now method.now) }
         ensures removed { plain_table self.new ≡ changed_at (plain_table self.old) class.now (without_method method.now) }
         ensures nodes { table_nodes self.new ≡ table_nodes self.old }
         ensures names { table_names self.new ≡ table_names self.old }
@@ -152,11 +151,9 @@ impl Table {
         exprs: &Arena<ExprNode>,
     ) -> Result<(), NoMemory>
         requires there { IsSome (finite.get (plain_table self.old) class.now) }
-        requires method_there { IfSome (finite.get (plain_table self.old) class.now)
-            (λ c. IsSome (finite.get c.methods (plain_method from.now exprs.now method.now).name.text)) }
-        requires same { IfSome (finite.get (plain_table self.old) class.now)
-            (λ c. IfSome (finite.get c.methods (plain_method from.now exprs.now method.now).name.text)
-            (λ old. IsTrue (same_signature old.signature (signature_of (plain_method from.now exprs.now method.now))))) }
+        requires method_there { IsSome (own_method (plain_table self.old) class.now (plain_method from.now exprs.now method.now).name.text) }
+        requires same { IfSome (own_method (plain_table self.old) class.now (plain_method from.now exprs.now method.now).name.text)
+            (λ old. IsTrue (same_signature old.signature (signature_of (plain_method from.now exprs.now method.now)))) }
         requires known { IsMethod from.now exprs.now method.now }
         requires nodes_known { All (IsExprNode from.now) exprs.now }
         requires expression { IsExpression (plain_method from.now exprs.now method.now).body }
@@ -170,7 +167,7 @@ impl Table {
         ensures few_names { length (table_names self.new) ≤ length (table_names self.old) + names_said (plain_method from.now exprs.now method.now) }
         ensures few_nodes { length (table_nodes self.new) ≤ length (table_nodes self.old) + size (plain_method from.now exprs.now method.now).body }
     {
-        let own = self.own_method(from, method, exprs)?;
+        let own = self.own_declaration(from, method, exprs)?;
         let place = self.class_place(class);
         redeclare(&self.names, &mut self.classes[place].methods, own)
     }

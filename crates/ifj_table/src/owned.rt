@@ -65,7 +65,7 @@ impl Table {
     }
 
     // The same declaration, with its body copied.
-    pub(crate) fn own_method(
+    pub(crate) fn own_declaration(
         &mut self,
         from: &Names,
         method: &Method,

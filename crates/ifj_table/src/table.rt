@@ -32,7 +32,7 @@ impl Table {
     ghost use Rattle.ifj_table.specs.Held.{AreClasses};
     ghost use Rattle.ifj_table.specs.Tables.{plain_table, table_names, table_nodes, table_classes, name_text, class_keys};
     ghost use Rattle.ifj_table.specs.Sorted.{IsGap};
-    ghost use Rattle.ifj_table.specs.Lookups.{IsClassOf};
+    ghost use Rattle.ifj_table.specs.Lookups.{IsClassNamed};
     ghost use Rattle.ifj_table.specs.Changes.{changed_at, bare_class, with_parent};
 
     /// A table without classes.
@@ -70,18 +70,27 @@ impl Table {
         self.classes.as_slice()
     }
 
+    /// The class of this name, and `None` where the table has none.
+    pub fn class_named(&self, class: &str) -> Option<&ClassEntry>
+        ensures found { MatchOption result (map.get (plain_table self.now) class.now ≡ None)
+            (λ entry. map.get (plain_table self.now) class.now ≡ Some (plain_class (table_names self.now) (table_nodes self.now) entry.now)) }
+        ensures class { IfSome result (λ entry. IsClassNamed self.now class.now entry.now) }
+    {
+        match self.find_class(class) {
+            Ok(at) => Some(&self.classes[at]),
+            Err(_) => None,
+        }
+    }
+
     /// The class of a name of the table, and `None` where it has none.
     pub fn class_of(&self, class: Name) -> Option<&ClassEntry>
         requires { class.0 < length (table_names self.now) }
         ensures found { MatchOption result (map.get (plain_table self.now) (name_text self.now class.0) ≡ None)
             (λ entry. map.get (plain_table self.now) (name_text self.now class.0)
             ≡ Some (plain_class (table_names self.now) (table_nodes self.now) entry.now)) }
-        ensures class { IfSome result (λ entry. IsClassOf self.now class.0 entry.now) }
+        ensures class { IfSome result (λ entry. IsClassNamed self.now (name_text self.now class.0) entry.now) }
     {
-        match self.find_class(self.names.text(class)) {
-            Ok(at) => Some(&self.classes[at]),
-            Err(_) => None,
-        }
+        self.class_named(self.names.text(class))
     }
 
     // The number of the class of this name, and else the number at which it would stand.

@@ -10,7 +10,7 @@ use Rattle.ifj_table.specs.declared.entry.FieldEntry.{FieldEntry}
 use Rattle.ifj_table.specs.declared.entry.ClassEntry.{ClassEntry}
 use Rattle.ifj_table.proofs.EntryMaps.{set_itself}
 use Rattle.ifj_table.proofs.TableChanges.{with_changed, map_with_changed, unchanged}
-use Rattle.ifj_table.proofs.MemberLemmas.{if_some, either_way, on_ok, on_err, field_key, stands, is_class, reads, with_fields, field_absent, more_fields, map_more_fields}
+use Rattle.ifj_table.proofs.MemberLemmas.{behind, either_way, on_ok, on_err, field_key, stands, is_class, reads, with_fields, field_absent, more_fields, map_more_fields}
 use Rattle.ifj_table.proofs.table.Table.add_field.Goals as goal
 
 pub insert_entry-requires-clause-rising : goal.insert_entry-requires-clause-rising
@@ -30,7 +30,7 @@ insert_entry-requires-clause-absent c =
     let is = is_class t.names t.exprs t.classes.items t.held at c.args.class.now old c.class_place-place.ensures c.index_mut.ensures.value in
     let before = c.spot-2.ensures.table ∙ c.spot.ensures.table in
     let there = sym (ap (λ m. get m c.args.class.now) before) ∙ reads t.names t.exprs t.classes.items t.held at c.args.class.now old c.class_place-place.ensures c.index_mut.ensures.value in
-    let none = if_some (λ e. get e.fields c.args.field.now ≡ None) _ (plain_class t.names t.exprs old) there c.requires.absent in
+    let none = sym (behind (λ e. get e.fields c.args.field.now) _ (plain_class t.names t.exprs old) there) ∙ c.requires.absent in
     λ k. subst (λ key. ¬ (slice_get (map (field_key t.names) old.fields.items) k ≡ Some key)) (sym key) (field_absent t.names t.exprs old is c.args.field.now k none)
 
 pub invariant_of-self : goal.invariant_of-self
@@ -45,7 +45,7 @@ invariant_of-self c =
     let is = is_class t.names t.exprs t.classes.items t.held at c.args.class.now old c.class_place-place.ensures c.index_mut.ensures.value in
     let before = c.spot-2.ensures.table ∙ c.spot.ensures.table in
     let there = sym (ap (λ m. get m c.args.class.now) before) ∙ reads t.names t.exprs t.classes.items t.held at c.args.class.now old c.class_place-place.ensures c.index_mut.ensures.value in
-    let none = if_some (λ e. get e.fields c.args.field.now ≡ None) _ (plain_class t.names t.exprs old) there c.requires.absent in
+    let none = sym (behind (λ e. get e.fields c.args.field.now) _ (plain_class t.names t.exprs old) there) ∙ c.requires.absent in
     let new : ClassEntry = record old { fields = c.insert_entry.new.entries } in
     let known : IsFieldEntry t.names f = record { spot = known_later names t.names f.spot c.spot-2.ensures.numbers c.in_ok-spot.ensures.known; kind = c.in_ok-kind.ensures.known } in
     let place = stands t.names t.exprs t.classes.items t.held at c.args.class.now old c.class_place-place.ensures c.index_mut.ensures.value in
@@ -68,7 +68,7 @@ returns-clause-added c =
     let is = is_class t.names t.exprs t.classes.items t.held at c.args.class.now old c.class_place-place.ensures c.index_mut.ensures.value in
     let before = c.spot-2.ensures.table ∙ c.spot.ensures.table in
     let there = sym (ap (λ m. get m c.args.class.now) before) ∙ reads t.names t.exprs t.classes.items t.held at c.args.class.now old c.class_place-place.ensures c.index_mut.ensures.value in
-    let none = if_some (λ e. get e.fields c.args.field.now ≡ None) _ (plain_class t.names t.exprs old) there c.requires.absent in
+    let none = sym (behind (λ e. get e.fields c.args.field.now) _ (plain_class t.names t.exprs old) there) ∙ c.requires.absent in
     let new : ClassEntry = record old { fields = c.insert_entry.new.entries } in
     let was = plain_class t.names t.exprs old in
     let change = with_field c.args.field.now (record { at = c.args.at; kind = record { text = c.args.kind.now; at = c.args.kind_at } }) in
@@ -91,7 +91,7 @@ returns-clause-err c =
     let is = is_class t.names t.exprs t.classes.items t.held at c.args.class.now old c.class_place-place.ensures c.index_mut.ensures.value in
     let before = c.spot-2.ensures.table ∙ c.spot.ensures.table in
     let there = sym (ap (λ m. get m c.args.class.now) before) ∙ reads t.names t.exprs t.classes.items t.held at c.args.class.now old c.class_place-place.ensures c.index_mut.ensures.value in
-    let none = if_some (λ e. get e.fields c.args.field.now ≡ None) _ (plain_class t.names t.exprs old) there c.requires.absent in
+    let none = sym (behind (λ e. get e.fields c.args.field.now) _ (plain_class t.names t.exprs old) there) ∙ c.requires.absent in
     let new : ClassEntry = record old { fields = c.insert_entry.new.entries } in
     let was = plain_class t.names t.exprs old in
     on_err c.insert_entry.result c.insert_entry.ensures.err

@@ -8,7 +8,7 @@ use Rattle.ifj_table.specs.Entries.{plain_class, classes_of, methods_of, plain_m
 use Rattle.ifj_table.specs.Changes.{changed_at, with_method}
 use Rattle.ifj_table.specs.declared.entry.ClassEntry.{ClassEntry}
 use Rattle.ifj_table.proofs.TableChanges.{with_changed, map_with_changed, unchanged}
-use Rattle.ifj_table.proofs.MemberLemmas.{if_some, either_way, on_ok, on_err, method_key, stands, is_class, reads, with_methods, method_absent, more_methods, map_more_methods}
+use Rattle.ifj_table.proofs.MemberLemmas.{behind, either_way, on_ok, on_err, method_key, stands, is_class, reads, with_methods, method_absent, more_methods, map_more_methods}
 use Rattle.ifj_table.proofs.table.Table.add_method.Goals as goal
 
 pub insert_entry-requires-clause-rising : goal.insert_entry-requires-clause-rising
@@ -27,7 +27,7 @@ insert_entry-requires-clause-absent c =
     let is = is_class t.names t.exprs t.classes.items t.held at c.args.class.now old c.class_place-place.ensures c.index_mut.ensures.value in
     let before = c.method_entry.ensures.table in
     let there = sym (ap (λ t. get t c.args.class.now) before) ∙ reads t.names t.exprs t.classes.items t.held at c.args.class.now old c.class_place-place.ensures c.index_mut.ensures.value in
-    let none = if_some (λ e. get e.methods m.name.text ≡ None) _ (plain_class t.names t.exprs old) there c.requires.absent in
+    let none = sym (behind (λ e. get e.methods m.name.text) _ (plain_class t.names t.exprs old) there) ∙ c.requires.absent in
     λ k. subst (λ key. ¬ (slice_get (map (method_key t.names) old.methods.items) k ≡ Some key)) (sym key) (method_absent t.names t.exprs old is m.name.text k none)
 
 pub invariant_of-self : goal.invariant_of-self
@@ -61,7 +61,7 @@ returns-clause-added c =
     let is = is_class t.names t.exprs t.classes.items t.held at c.args.class.now old c.class_place-place.ensures c.index_mut.ensures.value in
     let before = c.method_entry.ensures.table in
     let there = sym (ap (λ t. get t c.args.class.now) before) ∙ reads t.names t.exprs t.classes.items t.held at c.args.class.now old c.class_place-place.ensures c.index_mut.ensures.value in
-    let none = if_some (λ e. get e.methods m.name.text ≡ None) _ (plain_class t.names t.exprs old) there c.requires.absent in
+    let none = sym (behind (λ e. get e.methods m.name.text) _ (plain_class t.names t.exprs old) there) ∙ c.requires.absent in
     let new : ClassEntry = record old { methods = c.insert_entry.new.entries } in
     let was = plain_class t.names t.exprs old in
     let change = with_method m.name.text (plain_entry m) in

@@ -1,34 +1,17 @@
-use Rattle.std.proofs.Common.{◌≡◌, [], slice_get, Some, sym, ap, ◌∙◌, subst, arith}
-use Rattle.std.specs.Prelude.{unwrap_or}
+use Rattle.std.proofs.Common.{◌≡◌, Some, sym, ap, ◌∙◌, subst}
+use Rattle.std.specs.Prelude.{unwrap_or, [], None, MatchOption, IfSome}
 use Rattle.std.specs.FinMap.{get}
-use Rattle.ifj_table.specs.Entries.{classes_of, plain_class}
-use Rattle.ifj_table.proofs.TableLemmas.{class_key, class_at, class_read, no_class, place_within, element_is}
+use Rattle.std.specs.Borrow.{Bor}
+use Rattle.ifj_table.specs.Entries.{plain_class}
+use Rattle.ifj_table.specs.Tables.{plain_table}
+use Rattle.ifj_table.specs.Lookups.{IsClassNamed}
+use Rattle.ifj_table.specs.declared.entry.ClassEntry.{ClassEntry}
 use Rattle.ifj_table.proofs.table.Table.class_of.Goals as goal
 
-pub index-requires : goal.index-requires
-index-requires c =
+pub returns-clause-found : goal.returns-clause-found
+returns-clause-found c =
     let t = c.args.self.now in
-    omega (arith, place_within (class_key t.names) t.classes.items c.in-Ok.at c.text.result.now c.in-Ok.ensures, t.classes.ok.0)
+    rw c.text.ensures c.class_named.ensures.found
 
-pub returns-in-Ok-clause-found : goal.returns-in-Ok-clause-found
-returns-in-Ok-clause-found c =
-    let t = c.args.self.now in
-    rw c.text.ensures (class_read t.names t.exprs t.classes.items t.held c.in-Ok.at c.text.result.now c.index.result.now c.in-Ok.ensures c.index.ensures)
-
-pub returns-in-Ok-clause-class : goal.returns-in-Ok-clause-class
-returns-in-Ok-clause-class c =
-    let t = c.args.self.now in
-    let it = class_at t.names t.exprs t.classes.items t.held c.in-Ok.at c.text.result.now c.in-Ok.ensures in
-    let stands = element_is t.classes.items c.in-Ok.at c.index.result.now (place_within (class_key t.names) t.classes.items c.in-Ok.at c.text.result.now c.in-Ok.ensures) c.index.ensures in
-    let same : it.0 ≡ c.index.result.now = cc in
-    record {
-      known = c.requires;
-      number = c.in-Ok.at;
-      stands = stands;
-      named = ap (class_key t.names) (sym same) ∙ it.2 ∙ sym (ap (λ o. unwrap_or o []) c.text.ensures);
-    }
-
-pub returns-in-Err-clause-found : goal.returns-in-Err-clause-found
-returns-in-Err-clause-found c =
-    let t = c.args.self.now in
-    rw c.text.ensures (no_class t.names t.exprs t.classes.items t.held c.in-Err.field-0 c.text.result.now c.in-Err.ensures)
+pub returns-clause-class : goal.returns-clause-class
+returns-clause-class c = rw c.text.ensures c.class_named.ensures.class

@@ -23,24 +23,25 @@ returns-in-None c =
 pub search-requires-clause-known : goal.search-requires-clause-known
 search-requires-clause-known c =
     let t = c.args.self.now in
-    let is = entry_held t c.up.at.0 c.in-Some.entry.now c.in-Some.ensures.class in
+    let is = entry_held t (name_text t c.up.at.0) c.in-Some.entry.now c.in-Some.ensures.class in
     subst (All (λ (e : FieldEntry). IsKnown t.names e.spot)) (sym c.as_slice.ensures.value) (All-weaker (IsFieldEntry t.names) (λ (e : FieldEntry). IsKnown t.names e.spot) (λ e h. h.spot) c.in-Some.entry.now.fields.items is.fields)
 
 pub search-requires-clause-rising : goal.search-requires-clause-rising
 search-requires-clause-rising c =
     let t = c.args.self.now in
-    let is = entry_held t c.up.at.0 c.in-Some.entry.now c.in-Some.ensures.class in
+    let is = entry_held t (name_text t c.up.at.0) c.in-Some.entry.now c.in-Some.ensures.class in
     subst (λ es. AreRising (map (field_key t.names) es)) (sym c.as_slice.ensures.value) is.rising_fields
 
 pub returns-in-Ok : goal.returns-in-Ok
 returns-in-Ok c =
     let t = c.args.self.now in
     let class = c.in-Some.entry.now in
-    let is = entry_held t c.up.at.0 class c.in-Some.ensures.class in
+    let is = entry_held t (name_text t c.up.at.0) class c.in-Some.ensures.class in
     let here = subst (λ es. slice_get (map (field_key t.names) es) c.in-Ok.place ≡ Some c.text-text.result.now) c.as_slice.ensures.value c.in-Ok.ensures in
     let it = got_at (field_key t.names) (plain_field t.names) class.fields.items c.in-Ok.place c.text-text.result.now is.rising_fields here in
     let text = ap (λ o. unwrap_or o []) c.text-text.ensures in
     record {
+      known = c.up.invariant.0;
       owner = class;
       is_owner = c.in-Some.ensures.class;
       entry = it.0;
@@ -53,7 +54,7 @@ pub up-preserved : goal.up-preserved
 up-preserved c =
     let t = c.args.self.now in
     let class = c.in-Some.entry.now in
-    let is = entry_held t c.up.at.0 class c.in-Some.ensures.class in
+    let is = entry_held t (name_text t c.up.at.0) class c.in-Some.ensures.class in
     let gap = subst (λ es. IsGap (map (field_key t.names) es) c.text-text.result.now c.in-Err.field-0) c.as_slice.ensures.value c.in-Err.ensures in (
       is.parent,
       climbs_past t (λ entry. get entry.fields c.text-text.result.now) (name_text t c.args.class.0) (name_text t c.up.at.0) c.up._turn c.up.invariant.1 class c.in-Some.ensures.found

@@ -1,52 +1,55 @@
-use Rattle.std.proofs.Common.{◌≡◌, List, length, map, refl, sym, ap, ap₂, ◌∙◌, subst, arith}
+use Rattle.std.proofs.Common.{◌≡◌, map, slice_get, Some, refl, sym, ap, ◌∙◌, subst, arith}
 use Rattle.std.specs.Prelude.{All}
-use Rattle.std.proofs.lemmas.List.{length-map}
-use Rattle.std.proofs.lemmas.Simd.{map-map}
-use Rattle.dj_tree.specs.Trees as plain
-use Rattle.dj_tree.specs.Plain.{plain_spot, plain_field}
+use Rattle.std.specs.Option.{option_and_then}
+use Rattle.std.specs.FinMap.{get}
+use Rattle.std.proofs.lemmas.List.Elements.{All-weaker}
 use Rattle.dj_tree.specs.WellFormed.{IsKnown}
-use Rattle.dj_tree.specs.declared.declarations.FieldDecl.{FieldDecl}
-use Rattle.dj_calculus.specs.Expressions.{IsExpression}
-use Rattle.ifj_table.proofs.OwnNames.{later_spots, later_known}
+use Rattle.ifj_table.specs.declared.entry.MethodEntry.{MethodEntry}
+use Rattle.ifj_table.specs.Sorted.{AreRising, IsGap}
+use Rattle.ifj_table.specs.Entries.{plain_class, plain_method}
+use Rattle.ifj_table.specs.Held.{IsMethodEntry}
+use Rattle.ifj_table.proofs.EntryMaps.{got_at, missing_in_gap}
+use Rattle.ifj_table.proofs.TableLemmas.{place_within, element_is}
+use Rattle.ifj_table.proofs.MemberLemmas.{behind, method_key}
+use Rattle.ifj_table.proofs.Inherited.{entry_held}
 use Rattle.ifj_table.proofs.table.Table.own_method.Goals as goal
 
-pub returns-clause-types : goal.returns-clause-types
-returns-clause-types c =
-    let names = c.own_parameters.new.self.names in
-    let later = c.copy_expr.new.self.names in
-    ap (map (plain_spot later)) c.from_vec.ensures ∙ later_spots names later c.in_ok-parameters.parameters.types.items c.copy_expr.ensures.numbers c.in_ok-parameters.ensures.own_types
-    ∙ c.in_ok-parameters.ensures.types ∙ ap (map (λ (p : FieldDecl). plain_spot c.args.from.now p.kind)) c.as_slice.ensures
-    ∙ sym (map-map (λ (p : plain.Field). p.kind) (plain_field c.args.from.now) c.args.method.now.parameters)
+pub returns-in-None : goal.returns-in-None
+returns-in-None c = ap (option_and_then (λ e. get e.methods c.args.method.now)) c.in-None.ensures.found
 
-pub returns-clause-body : goal.returns-clause-body
-returns-clause-body c =
-    let names = c.own_parameters.new.self.names in
-    let later = c.copy_expr.new.self.names in
-    ap₂ (λ spots e. record { names = spots; value = e })
-    (ap (map (plain_spot later)) c.from_vec-2.ensures ∙ later_spots names later c.in_ok-parameters.parameters.names.items c.copy_expr.ensures.numbers c.in_ok-parameters.ensures.own_names
-    ∙ c.in_ok-parameters.ensures.names ∙ ap (map (λ (p : FieldDecl). plain_spot c.args.from.now p.spot)) c.as_slice.ensures
-    ∙ sym (map-map (λ (p : plain.Field). p.name) (plain_field c.args.from.now) c.args.method.now.parameters))
-    c.in_ok-root.ensures.tree
+pub search-requires-clause-known : goal.search-requires-clause-known
+search-requires-clause-known c =
+    let t = c.args.self.now in
+    let is = entry_held t c.args.class.now c.in-Some.entry.now c.in-Some.ensures.class in
+    subst (All (λ (e : MethodEntry). IsKnown t.names e.spot)) (sym c.as_slice.ensures.value) (All-weaker (IsMethodEntry t.names t.exprs) (λ (e : MethodEntry). IsKnown t.names e.spot) (λ e h. h.spot) c.in-Some.entry.now.methods.items is.methods)
 
-pub returns-clause-own_types : goal.returns-clause-own_types
-returns-clause-own_types c =
-    subst (All (IsKnown c.copy_expr.new.self.names)) (sym c.from_vec.ensures)
-    (later_known c.own_parameters.new.self.names c.copy_expr.new.self.names c.in_ok-parameters.parameters.types.items c.copy_expr.ensures.numbers c.in_ok-parameters.ensures.own_types)
+pub search-requires-clause-rising : goal.search-requires-clause-rising
+search-requires-clause-rising c =
+    let t = c.args.self.now in
+    let is = entry_held t c.args.class.now c.in-Some.entry.now c.in-Some.ensures.class in
+    subst (λ es. AreRising (map (method_key t.names) es)) (sym c.as_slice.ensures.value) is.rising_methods
 
-pub returns-clause-own_body : goal.returns-clause-own_body
-returns-clause-own_body c =
-    let names = c.own_parameters.new.self.names in
-    let later = c.copy_expr.new.self.names in
-    let types = c.in_ok-parameters.parameters.types.items in
-    let tags = c.in_ok-parameters.parameters.names.items in
-    let ps = c.as_slice.result.now in
-    let many_types : length types ≡ length ps =
-    sym (length-map types (plain_spot names)) ∙ ap length c.in_ok-parameters.ensures.types ∙ length-map ps (λ (p : FieldDecl). plain_spot c.args.from.now p.kind) in
-    let many_names : length tags ≡ length ps =
-    sym (length-map tags (plain_spot names)) ∙ ap length c.in_ok-parameters.ensures.names ∙ length-map ps (λ (p : FieldDecl). plain_spot c.args.from.now p.spot) in
-    record {
-      parameters = subst (All (IsKnown later)) (sym c.from_vec-2.ensures) (later_known names later tags c.copy_expr.ensures.numbers c.in_ok-parameters.ensures.own_names);
-      count = ap length c.from_vec-2.ensures ∙ many_names ∙ sym many_types ∙ sym (ap length c.from_vec.ensures);
-      root = c.in_ok-root.ensures.own;
-      expression = subst (λ e. IsExpression e) (sym c.in_ok-root.ensures.tree) c.requires.expression;
-    }
+pub index-requires : goal.index-requires
+index-requires c =
+    let t = c.args.self.now in
+    let class = c.in-Some.entry.now in
+    let here = subst (λ es. slice_get (map (method_key t.names) es) c.in-Ok.at ≡ Some c.args.method.now) c.as_slice.ensures.value c.in-Ok.ensures in
+    omega (arith, place_within (method_key t.names) class.methods.items c.in-Ok.at c.args.method.now here, class.methods.ok.0)
+
+pub returns-in-Ok : goal.returns-in-Ok
+returns-in-Ok c =
+    let t = c.args.self.now in
+    let class = c.in-Some.entry.now in
+    let is = entry_held t c.args.class.now class c.in-Some.ensures.class in
+    let here = subst (λ es. slice_get (map (method_key t.names) es) c.in-Ok.at ≡ Some c.args.method.now) c.as_slice.ensures.value c.in-Ok.ensures in
+    let it = got_at (method_key t.names) (plain_method t.names t.exprs) class.methods.items c.in-Ok.at c.args.method.now is.rising_methods here in
+    let stands = element_is class.methods.items c.in-Ok.at c.index.result.now (place_within (method_key t.names) class.methods.items c.in-Ok.at c.args.method.now here) c.index.ensures in
+    let same : it.0 ≡ c.index.result.now = cc in
+    behind (λ e. get e.methods c.args.method.now) _ (plain_class t.names t.exprs class) c.in-Some.ensures.found ∙ it.3 ∙ ap (λ (e : MethodEntry). Some (plain_method t.names t.exprs e)) same
+
+pub returns-in-Err : goal.returns-in-Err
+returns-in-Err c =
+    let t = c.args.self.now in
+    let class = c.in-Some.entry.now in
+    let gap = subst (λ es. IsGap (map (method_key t.names) es) c.args.method.now c.in-Err.field-0) c.as_slice.ensures.value c.in-Err.ensures in
+    behind (λ e. get e.methods c.args.method.now) _ (plain_class t.names t.exprs class) c.in-Some.ensures.found ∙ missing_in_gap (method_key t.names) (plain_method t.names t.exprs) class.methods.items c.args.method.now c.in-Err.field-0 gap

@@ -10,17 +10,17 @@ use Rattle.ifj_table.specs.Redeclared.{IsRedeclaredAmong}
 use Rattle.ifj_table.specs.Changes.{changed_at, with_body, pushed_body}
 use Rattle.ifj_table.specs.declared.entry.ClassEntry.{ClassEntry}
 use Rattle.ifj_table.proofs.TableChanges.{with_changed, map_with_changed, unchanged, changed_there}
-use Rattle.ifj_table.proofs.MemberLemmas.{if_some, some_value, either_way, on_ok, on_err, method_key, stands, is_class, reads, with_methods, method_there, same_methods, redeclared}
+use Rattle.ifj_table.proofs.MemberLemmas.{if_some, behind, some_value, either_way, on_ok, on_err, method_key, stands, is_class, reads, with_methods, method_there, same_methods, redeclared}
 use Rattle.ifj_table.proofs.table.Table.push_body.Goals as goal
 
 pub redeclare-requires-clause-rising : goal.redeclare-requires-clause-rising
 redeclare-requires-clause-rising c =
-    let t = c.own_method.new.self in
+    let t = c.own_declaration.new.self in
     (is_class t.names t.exprs t.classes.items t.held c.class_place-place.result c.args.class.now c.index_mut.result.now c.class_place-place.ensures c.index_mut.ensures.value).rising_methods
 
 pub redeclare-requires-clause-there : goal.redeclare-requires-clause-there
 redeclare-requires-clause-there c =
-    let t = c.own_method.new.self in
+    let t = c.own_declaration.new.self in
     let m = plain_declared c.args.from.now c.args.exprs.now c.args.method.now in
     let own = c.in_ok-own.own in
     let says = c.in_ok-own.ensures in
@@ -28,14 +28,14 @@ redeclare-requires-clause-there c =
     let at = c.class_place-place.result in
     let key : text_at t.names own.spot ≡ m.name.text = ap (λ (x : Spot). x.text) says.spot in
     let is = is_class t.names t.exprs t.classes.items t.held at c.args.class.now old c.class_place-place.ensures c.index_mut.ensures.value in
-    let before = c.own_method.ensures.table in
+    let before = c.own_declaration.ensures.table in
     let there = sym (ap (λ t. get t c.args.class.now) before) ∙ reads t.names t.exprs t.classes.items t.held at c.args.class.now old c.class_place-place.ensures c.index_mut.ensures.value in
-    let method_stands = if_some (λ e. IsSome (get e.methods m.name.text)) _ (plain_class t.names t.exprs old) there c.requires.method_there in
+    let method_stands = subst IsSome (behind (λ e. get e.methods m.name.text) _ (plain_class t.names t.exprs old) there) c.requires.method_there in
     subst (λ k. (n : ℕ) × (slice_get (map (method_key t.names) old.methods.items) n ≡ Some k)) (sym key) (method_there t.names t.exprs old is m.name.text method_stands)
 
 pub invariant_of-self : goal.invariant_of-self
 invariant_of-self c =
-    let t = c.own_method.new.self in
+    let t = c.own_declaration.new.self in
     let m = plain_declared c.args.from.now c.args.exprs.now c.args.method.now in
     let own = c.in_ok-own.own in
     let says = c.in_ok-own.ensures in
@@ -43,12 +43,12 @@ invariant_of-self c =
     let at = c.class_place-place.result in
     let key : text_at t.names own.spot ≡ m.name.text = ap (λ (x : Spot). x.text) says.spot in
     let is = is_class t.names t.exprs t.classes.items t.held at c.args.class.now old c.class_place-place.ensures c.index_mut.ensures.value in
-    let before = c.own_method.ensures.table in
+    let before = c.own_declaration.ensures.table in
     let there = sym (ap (λ t. get t c.args.class.now) before) ∙ reads t.names t.exprs t.classes.items t.held at c.args.class.now old c.class_place-place.ensures c.index_mut.ensures.value in
-    let method_stands = if_some (λ e. IsSome (get e.methods m.name.text)) _ (plain_class t.names t.exprs old) there c.requires.method_there in
+    let method_stands = subst IsSome (behind (λ e. get e.methods m.name.text) _ (plain_class t.names t.exprs old) there) c.requires.method_there in
     let entry = some_value (get (methods_of t.names t.exprs old.methods.items) m.name.text) method_stands in
     let same = if_some (λ e. IsTrue (same_signature e.signature (signature_of m))) (get (methods_of t.names t.exprs old.methods.items) m.name.text) entry.0 entry.1
-    (if_some (λ e. IfSome (get e.methods m.name.text) (λ x. IsTrue (same_signature x.signature (signature_of m)))) _ (plain_class t.names t.exprs old) there c.requires.same) in
+    (subst (λ o. IfSome o (λ x. IsTrue (same_signature x.signature (signature_of m)))) (behind (λ e. get e.methods m.name.text) _ (plain_class t.names t.exprs old) there) c.requires.same) in
     let again = λ (after : IsRedeclaredAmong old.methods.items (text_at t.names own.spot) t.names own.result own.spot own.types own.body c.redeclare.new.methods.items).
     redeclared t.names t.exprs old is c.redeclare.new.methods.items m.name.text own.result own.spot own.types own.body m entry.0
     (subst (λ k. IsRedeclaredAmong old.methods.items k t.names own.result own.spot own.types own.body c.redeclare.new.methods.items) key after)
@@ -65,7 +65,7 @@ invariant_of-self c =
 
 pub returns-clause-pushed : goal.returns-clause-pushed
 returns-clause-pushed c =
-    let t = c.own_method.new.self in
+    let t = c.own_declaration.new.self in
     let m = plain_declared c.args.from.now c.args.exprs.now c.args.method.now in
     let own = c.in_ok-own.own in
     let says = c.in_ok-own.ensures in
@@ -73,12 +73,12 @@ returns-clause-pushed c =
     let at = c.class_place-place.result in
     let key : text_at t.names own.spot ≡ m.name.text = ap (λ (x : Spot). x.text) says.spot in
     let is = is_class t.names t.exprs t.classes.items t.held at c.args.class.now old c.class_place-place.ensures c.index_mut.ensures.value in
-    let before = c.own_method.ensures.table in
+    let before = c.own_declaration.ensures.table in
     let there = sym (ap (λ t. get t c.args.class.now) before) ∙ reads t.names t.exprs t.classes.items t.held at c.args.class.now old c.class_place-place.ensures c.index_mut.ensures.value in
-    let method_stands = if_some (λ e. IsSome (get e.methods m.name.text)) _ (plain_class t.names t.exprs old) there c.requires.method_there in
+    let method_stands = subst IsSome (behind (λ e. get e.methods m.name.text) _ (plain_class t.names t.exprs old) there) c.requires.method_there in
     let entry = some_value (get (methods_of t.names t.exprs old.methods.items) m.name.text) method_stands in
     let same = if_some (λ e. IsTrue (same_signature e.signature (signature_of m))) (get (methods_of t.names t.exprs old.methods.items) m.name.text) entry.0 entry.1
-    (if_some (λ e. IfSome (get e.methods m.name.text) (λ x. IsTrue (same_signature x.signature (signature_of m)))) _ (plain_class t.names t.exprs old) there c.requires.same) in
+    (subst (λ o. IfSome o (λ x. IsTrue (same_signature x.signature (signature_of m)))) (behind (λ e. get e.methods m.name.text) _ (plain_class t.names t.exprs old) there) c.requires.same) in
     let again = λ (after : IsRedeclaredAmong old.methods.items (text_at t.names own.spot) t.names own.result own.spot own.types own.body c.redeclare.new.methods.items).
     redeclared t.names t.exprs old is c.redeclare.new.methods.items m.name.text own.result own.spot own.types own.body m entry.0
     (subst (λ k. IsRedeclaredAmong old.methods.items k t.names own.result own.spot own.types own.body c.redeclare.new.methods.items) key after)
@@ -93,7 +93,7 @@ returns-clause-pushed c =
 
 pub returns-clause-err : goal.returns-clause-err
 returns-clause-err c =
-    let t = c.own_method.new.self in
+    let t = c.own_declaration.new.self in
     let m = plain_declared c.args.from.now c.args.exprs.now c.args.method.now in
     let own = c.in_ok-own.own in
     let says = c.in_ok-own.ensures in
@@ -101,12 +101,12 @@ returns-clause-err c =
     let at = c.class_place-place.result in
     let key : text_at t.names own.spot ≡ m.name.text = ap (λ (x : Spot). x.text) says.spot in
     let is = is_class t.names t.exprs t.classes.items t.held at c.args.class.now old c.class_place-place.ensures c.index_mut.ensures.value in
-    let before = c.own_method.ensures.table in
+    let before = c.own_declaration.ensures.table in
     let there = sym (ap (λ t. get t c.args.class.now) before) ∙ reads t.names t.exprs t.classes.items t.held at c.args.class.now old c.class_place-place.ensures c.index_mut.ensures.value in
-    let method_stands = if_some (λ e. IsSome (get e.methods m.name.text)) _ (plain_class t.names t.exprs old) there c.requires.method_there in
+    let method_stands = subst IsSome (behind (λ e. get e.methods m.name.text) _ (plain_class t.names t.exprs old) there) c.requires.method_there in
     let entry = some_value (get (methods_of t.names t.exprs old.methods.items) m.name.text) method_stands in
     let same = if_some (λ e. IsTrue (same_signature e.signature (signature_of m))) (get (methods_of t.names t.exprs old.methods.items) m.name.text) entry.0 entry.1
-    (if_some (λ e. IfSome (get e.methods m.name.text) (λ x. IsTrue (same_signature x.signature (signature_of m)))) _ (plain_class t.names t.exprs old) there c.requires.same) in
+    (subst (λ o. IfSome o (λ x. IsTrue (same_signature x.signature (signature_of m)))) (behind (λ e. get e.methods m.name.text) _ (plain_class t.names t.exprs old) there) c.requires.same) in
     let again = λ (after : IsRedeclaredAmong old.methods.items (text_at t.names own.spot) t.names own.result own.spot own.types own.body c.redeclare.new.methods.items).
     redeclared t.names t.exprs old is c.redeclare.new.methods.items m.name.text own.result own.spot own.types own.body m entry.0
     (subst (λ k. IsRedeclaredAmong old.methods.items k t.names own.result own.spot own.types own.body c.redeclare.new.methods.items) key after)

@@ -8,7 +8,7 @@ use Rattle.ifj_table.specs.Entries.{plain_class, classes_of, methods_of, plain_m
 use Rattle.ifj_table.specs.Changes.{changed_at, with_method}
 use Rattle.ifj_table.specs.declared.entry.ClassEntry.{ClassEntry}
 use Rattle.ifj_table.proofs.TableChanges.{with_changed, map_with_changed}
-use Rattle.ifj_table.proofs.MemberLemmas.{if_some, method_key, stands, is_class, reads, with_methods, method_there, set_methods, map_set_methods}
+use Rattle.ifj_table.proofs.MemberLemmas.{behind, method_key, stands, is_class, reads, with_methods, method_there, set_methods, map_set_methods}
 use Rattle.ifj_table.proofs.table.Table.put_body.Goals as goal
 
 pub replace_entry-requires-clause-rising : goal.replace_entry-requires-clause-rising
@@ -28,7 +28,7 @@ replace_entry-requires-clause-there c =
     let before = c.method_entry.ensures.table in
     let there = sym (ap (λ t. get t c.args.class.now) before) ∙ reads t.names t.exprs t.classes.items t.held at c.args.class.now old c.class_place-place.ensures c.index_mut.ensures.value in
     subst (λ key. (k : ℕ) × (slice_get (map (method_key t.names) old.methods.items) k ≡ Some key)) (sym key)
-    (method_there t.names t.exprs old is m.name.text (if_some (λ e. IsSome (get e.methods m.name.text)) _ (plain_class t.names t.exprs old) there c.requires.method_there))
+    (method_there t.names t.exprs old is m.name.text (subst IsSome (behind (λ e. get e.methods m.name.text) _ (plain_class t.names t.exprs old) there) c.requires.method_there))
 
 pub invariant_of-self : goal.invariant_of-self
 invariant_of-self c =

@@ -5,7 +5,7 @@ use Rattle.ifj_table.specs.Entries.{plain_class, fields_of}
 use Rattle.ifj_table.specs.Changes.{without_field}
 use Rattle.ifj_table.specs.declared.entry.ClassEntry.{ClassEntry}
 use Rattle.ifj_table.proofs.TableChanges.{with_changed, map_with_changed}
-use Rattle.ifj_table.proofs.MemberLemmas.{if_some, stands, is_class, reads, with_fields, field_there, fewer_fields, map_fewer_fields}
+use Rattle.ifj_table.proofs.MemberLemmas.{behind, stands, is_class, reads, with_fields, field_there, fewer_fields, map_fewer_fields}
 use Rattle.ifj_table.proofs.table.Table.remove_field.Goals as goal
 
 pub remove_entry-requires-clause-rising : goal.remove_entry-requires-clause-rising
@@ -20,7 +20,7 @@ remove_entry-requires-clause-there c =
     let at = c.class_place-place.result in
     let is = is_class t.names t.exprs t.classes.items t.held at c.args.class.now old c.class_place-place.ensures c.index_mut.ensures.value in
     let there = reads t.names t.exprs t.classes.items t.held at c.args.class.now old c.class_place-place.ensures c.index_mut.ensures.value in
-    field_there t.names t.exprs old is c.args.field.now (if_some (λ e. IsSome (get e.fields c.args.field.now)) _ (plain_class t.names t.exprs old) there c.requires.field_there)
+    field_there t.names t.exprs old is c.args.field.now (subst IsSome (behind (λ e. get e.fields c.args.field.now) _ (plain_class t.names t.exprs old) there) c.requires.field_there)
 
 pub invariant_of-self : goal.invariant_of-self
 invariant_of-self c =
