@@ -1,5 +1,5 @@
 -- Clauses under a trail: what is false, unit or settled.
-use Rattle.std.proofs.Common.{◌≡◌, ℕ, ◌<◌, Bool, true, false, not, ◌||◌, List, [], ◌∷◌, ◌++◌, Option, Some, None, IsTrue, MatchOption, option_map, All, length, slice_get, get_or, arith, refl, sym, subst, ap, ◌∙◌, ◌⊎◌, inl, inr}
+use Rattle.std.proofs.Common.{◌≡◌, ℕ, ◌<◌, Bool, true, false, not, ◌||◌, List, [], ◌∷◌, ◌++◌, Option, Some, None, IsTrue, option_map, All, length, slice_get, get_or, arith, refl, sym, subst, ap, ◌∙◌, ◌⊎◌, inl, inr}
 use Rattle.std.specs.Bool.{beq}
 use Rattle.std.specs.Option.{option_eq}
 use Rattle.std.proofs.lemmas.Bool.{true≢false, false≢true, and_parts, and_from, or_cases, or_left, or_right}
@@ -64,34 +64,6 @@ from_without clause out lit h =
     is_not false e = refl
 
 module _ (entries : List Entry) where
-  free_not_false : (lit : Lit) → IsFreeIn entries lit → IsFalseIn entries lit → ⊥
-  free_not_false lit free falsified = none-some (not lit.positive) (sym free ∙ falsified)
-
-  -- a literal along an equal one
-  false_along : (a b : Lit) → same_literal a b ≡ true → IsFalseIn entries b → IsFalseIn entries a
-  false_along a b e f = subst (IsFalseIn entries) (sym (one_literal a b e)) f
-
-  pub false_push : (clause : List Lit) (x : Lit) → IsFalseClause entries clause → IsFalseIn entries x → IsFalseClause entries (clause ++ x ∷ [])
-  false_push clause x all here = λ lit h. elim (has-push clause x lit h) [ inl e ↦ all lit e | inr e ↦ false_along lit x e here ]
-
-  pub forces_first : (clause : List Lit) (x : Lit) → IsFalseClause entries clause → Forces entries (clause ++ x ∷ []) x
-  forces_first clause x all = record {
-    there = has-last clause x;
-    others = λ lit h. let parts = from_without (clause ++ x ∷ []) x lit h in elim (has-push clause x lit parts.0) [ inl e ↦ all lit e | inr e ↦ absurd (false≢true (sym parts.1 ∙ ap (λ y. same_literal y lit) (sym (one_literal lit x e)) ∙ same_itself lit)) ];
-  }
-
-  pub forces_push : (clause : List Lit) (x free : Lit) → Forces entries clause free → IsFalseIn entries x → Forces entries (clause ++ x ∷ []) free
-  forces_push clause x free forces here = record {
-    there = has-front clause (x ∷ []) free forces.there;
-    others = λ lit h. let parts = from_without (clause ++ x ∷ []) free lit h in elim (has-push clause x lit parts.0) [ inl e ↦ forces.others lit (in_without clause free lit e parts.1) | inr e ↦ false_along lit x e here ];
-  }
-
-  pub forces_again : (clause : List Lit) (x free : Lit) → Forces entries clause free → same_literal free x ≡ true → Forces entries (clause ++ x ∷ []) free
-  forces_again clause x free forces same = record {
-    there = has-front clause (x ∷ []) free forces.there;
-    others = λ lit h. let parts = from_without (clause ++ x ∷ []) free lit h in elim (has-push clause x lit parts.0) [ inl e ↦ forces.others lit (in_without clause free lit e parts.1) | inr e ↦ absurd (false≢true (sym parts.1 ∙ ap (same_literal free) (one_literal lit x e) ∙ same)) ];
-  }
-
   -- a clause with a true literal is settled
   pub settled_true : (clause : List Lit) (lit : Lit) → IsTrue (has clause lit) → value_in entries lit.var ≡ Some lit.positive → IsSettled entries clause
   settled_true clause lit there holds = record {
@@ -102,39 +74,6 @@ module _ (entries : List Entry) where
       by : (free : Lit) → IsFreeIn entries free → Forces entries clause free → (b : Bool) → same_literal free lit ≡ b → ⊥
       by free is forces true e = none-some lit.positive (sym is ∙ ap (λ (l : Lit). value_in entries l.var) (one_literal free lit e) ∙ holds)
       by free is forces false e = not_both lit.positive (same_Some lit.positive (not lit.positive) (sym holds ∙ forces.others lit (in_without clause free lit there e)))
-
-  -- a clause with two free literals is settled
-  pub settled_free : (clause : List Lit) (a b : Lit) → IsTrue (has clause a) → IsTrue (has clause b) → IsFreeIn entries a → IsFreeIn entries b → same_literal a b ≡ false → IsSettled entries clause
-  settled_free clause a b in_a in_b free_a free_b ne = record {
-    not_false = λ all. free_not_false a free_a (all a in_a);
-    not_unit = λ free is forces. by free forces (same_literal free a) refl;
-  }
-    where
-      by : (free : Lit) → Forces entries clause free → (t : Bool) → same_literal free a ≡ t → ⊥
-      by free forces true e = free_not_false b free_b (forces.others b (in_without clause free b in_b (ap (λ l. same_literal l b) (one_literal free a e) ∙ ne)))
-      by free forces false e = free_not_false a free_a (forces.others a (in_without clause free a in_a e))
-
-  -- the free literal that was found in a clause so far
-  abbrev pub FreeSoFar : List Lit → Option Lit → Type 0
-  FreeSoFar clause free = MatchOption free (IsFalseClause entries clause) (λ lit. IsFreeIn entries lit × Forces entries clause lit)
-
-  pub free_past_false : (clause : List Lit) (x : Lit) (free : Option Lit) → FreeSoFar clause free → IsFalseIn entries x → FreeSoFar (clause ++ x ∷ []) free
-  free_past_false clause x None all here = false_push clause x all here
-  free_past_false clause x (Some lit) all here = (all.0, forces_push clause x lit all.1 here)
-
-  pub free_again : (clause : List Lit) (x first : Lit) (free : Option Lit) → FreeSoFar clause free → free ≡ Some first → same_literal first x ≡ true → FreeSoFar (clause ++ x ∷ []) (Some x)
-  free_again clause x first free all e same =
-      let here : FreeSoFar clause (Some first) = subst (FreeSoFar clause) e all in
-      subst (λ l. FreeSoFar (clause ++ x ∷ []) (Some l)) (one_literal first x same) (here.0, forces_again clause x first here.1 same)
-
-  pub free_first : (clause : List Lit) (x : Lit) (free : Option Lit) → FreeSoFar clause free → ((y : Lit) → free ≡ Some y → ⊥) → IsFreeIn entries x → FreeSoFar (clause ++ x ∷ []) (Some x)
-  free_first clause x None all none is = (is, forces_first clause x all)
-  free_first clause x (Some lit) all none is = absurd (none lit refl)
-
-  pub settled_second : (clause others : List Lit) (x first : Lit) (free : Option Lit) → FreeSoFar clause free → free ≡ Some first → same_literal first x ≡ false → IsFreeIn entries x → IsTrue (has (clause ++ others) x) → IsSettled entries (clause ++ others)
-  settled_second clause others x first free all e ne is there =
-      let here : FreeSoFar clause (Some first) = subst (FreeSoFar clause) e all in
-      settled_free (clause ++ others) first x (has-front clause others first here.1.there) there here.0 is ne
 
 -- what holds of each literal of a clause holds of one that it has
 pub All-has : (P : Lit → Type 0) (clause : List Lit) (lit : Lit) → All P clause → IsTrue (has clause lit) → P lit

@@ -23,17 +23,11 @@ use Rattle.sat_solver.proofs.EntryLemmas.{value_kept, value_pushed, valued_entry
 use Rattle.sat_solver.proofs.ClauseLemmas.{in_without, settled_true, same_value, other_value}
 use Rattle.sat_solver.proofs.TrailLemmas.{level_low}
 use Rattle.sat_solver.proofs.LevelLemmas.{place_up_to, false_within}
+use Rattle.sat_solver.proofs.LessonLemmas.{opposite_twice}
 use Rattle.sat_solver.proofs.WatchingLemmas.{lit_cases, other_literal}
 
-twice : (lit : Lit) → opposite (opposite lit) ≡ lit
-twice lit = by lit.var lit.positive
-  where
-    by : (v : ℕ) (b : Bool) → ◌≡◌ {A = Lit} (record { var = v; positive = not (not b) }) (record { var = v; positive = b })
-    by v true = refl
-    by v false = refl
-
 pub opposite_of : (a b : Lit) → a ≡ opposite b → b ≡ opposite a
-opposite_of a b e = sym (twice b) ∙ ap opposite (sym e)
+opposite_of a b e = sym (opposite_twice b) ∙ ap opposite (sym e)
 
 -- what was made true stays so
 pub made_more : (xs ys : List Entry) (lit : Lit) (level : ℕ) → IsMade xs lit level → IsMade (xs ++ ys) lit level

@@ -5,10 +5,8 @@ use Rattle.std.proofs.lemmas.List.{take-append-le, length_push}
 use Rattle.sat_clauses.specs.declared.literal.Lit.{Lit}
 use Rattle.sat_clauses.specs.Derivations.{Resolution, Follow}
 use Rattle.sat_solver.specs.declared.entry.Entry.{Entry}
-use Rattle.sat_solver.specs.Stores.{greatest_var}
 use Rattle.sat_solver.specs.Entries.{IsForced, AllReasoned, Extends, IsFalseClause}
 use Rattle.sat_solver.proofs.AlongLemmas.{at_first, at_front, Along-push, Along-take}
-use Rattle.sat_solver.proofs.StoreLemmas.{greatest-push, greatest-within}
 use Rattle.sat_solver.proofs.ClauseLemmas.{has-at}
 use Rattle.sat_solver.proofs.LevelLemmas.{false_within}
 
@@ -44,11 +42,6 @@ reasons_take clauses n entries all = Along-take (λ before entry. IsSome entry.r
 -- a clause that is false has the trail's variables
 pub false_vars : (vars : ℕ) (entries : List Entry) → All (λ entry. (1 ≤ entry.lit.var) × (entry.lit.var ≤ vars)) entries → (clause : List Lit) → IsFalseClause entries clause → All (λ lit. (1 ≤ lit.var) × (lit.var ≤ vars)) clause
 false_vars vars entries within clause all = λ k d h. false_within vars entries within (get_or clause k d) (all (get_or clause k d) (has-at clause k d h))
-
-pub greatest_later : (clauses : List (List Lit)) (clause : List Lit) (vars : ℕ) → vars ≡ greatest_var clauses → All (λ lit. (1 ≤ lit.var) × (lit.var ≤ vars)) clause → vars ≡ greatest_var (clauses ++ clause ∷ [])
-greatest_later clauses clause vars is within =
-    let low = greatest-within vars clause (λ k d h. (within k d h).1) in
-    omega (arith, is, low, greatest-push clauses clause)
 
 -- the known clauses stay where they are
 pub follow_keeps : (known all : List (List Lit)) (steps : List Resolution) → Follow known steps all → (k : ℕ) (clause : List Lit) → slice_get known k ≡ Some clause → slice_get all k ≡ Some clause

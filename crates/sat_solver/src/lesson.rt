@@ -1,7 +1,5 @@
 //! Lessons: a clause made of a false one by resolution with the reasons of its literals.
 ghost use Rattle.std.specs.Prelude.{◌≡◌, ℕ, ◌<◌, IfOk, OnOk, IfSome, IfNone, IsSome};
-ghost use Rattle.std.specs.List.{IsDistinct};
-ghost use Rattle.sat_clauses.specs.Literals.{same_literal};
 ghost use Rattle.sat_clauses.specs.ClauseLists.{IsClause, resolvent, without};
 ghost use Rattle.sat_solver.specs.Entries.{IsFalseClause, up_to};
 ghost use Rattle.sat_solver.specs.Lessons.{IsSecond};

@@ -1,13 +1,11 @@
 //! Propagation: a clause whose literals are all false but one makes that one true.
-ghost use Rattle.std.specs.Prelude.{◌≡◌, ◌≢◌, ◌≤◌, ◌<◌, ◌+◌, false, length, All, IsTrue, IfSome, IfNone, MatchOption, Some, slice_get};
-ghost use Rattle.sat_clauses.specs.Literals.{opposite as opposite_of};
+ghost use Rattle.std.specs.Prelude.{◌≡◌, ◌≢◌, ◌≤◌, ◌<◌, ◌+◌, false, length, All, IsTrue, IfSome, IfNone, Some};
 ghost use Rattle.sat_clauses.specs.ClauseLists.{has, without as without_literal};
 ghost use Rattle.sat_links.specs.Watches.{watches_of, StandsAfter};
-ghost use Rattle.sat_solver.specs.declared.entry.Entry.{Entry};
 ghost use Rattle.sat_solver.specs.Entries.{IsConflict, IsFalseIn, IsFalseClause, AllSettled, Extends, truth_in};
 ghost use Rattle.sat_solver.specs.Trails.{IsTrail};
 ghost use Rattle.sat_solver.specs.Watching.{Watches, IsShort};
-ghost use Rattle.sat_solver.specs.Pairing.{Paired, GoesOn, IsHeld, HoldsFirst, AllDone, IsNextFalse, VisitIs};
+ghost use Rattle.sat_solver.specs.Pairing.{Paired, GoesOn, IsHeld, HoldsFirst, AllDone, VisitIs};
 
 use crate::store::Store;
 use crate::trail::Trail;

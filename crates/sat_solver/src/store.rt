@@ -1,10 +1,10 @@
 //! The clauses that a solver looks at.
-ghost use Rattle.std.specs.Prelude.{◌≡◌, ◌≢◌, ℕ, ◌++◌, ◌∷◌, [], ◌^◌, ◌<◌, ◌≤◌, length, slice_get, slice_set, All, IsTrue, OnOk, OnErr, IfOk, Some, Contains, List};
+ghost use Rattle.std.specs.Prelude.{◌≡◌, ◌≢◌, ◌++◌, ◌∷◌, [], ◌^◌, ◌<◌, ◌≤◌, length, slice_get, slice_set, All, IsTrue, OnOk, OnErr, IfOk, Some, Contains, List};
 ghost use Rattle.sat_clauses.specs.declared.literal.Lit.{Lit};
 ghost use Rattle.sat_clauses.specs.ClauseLists.{has, IsClause};
 ghost use Rattle.sat_links.specs.Watches.{IsListed, watches_of, joined, StandsAfter, Follows, without as without_watch};
 ghost use Rattle.sat_solver.specs.Stores.{greatest_in, greatest_var};
-ghost use Rattle.sat_solver.specs.Watching.{watched, guard, moved, Watches, IsWatching};
+ghost use Rattle.sat_solver.specs.Watching.{guard, moved, Watches, IsWatching};
 
 use crate::pair::Pair;
 use sat_clauses::{Clauses, Lit};
