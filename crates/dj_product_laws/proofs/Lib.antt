@@ -1,0 +1,11 @@
+pub mod FaultProofs
+pub mod EachTwo
+pub mod Clear
+pub mod MemberOrders
+pub mod OnePart
+pub mod BrokenPart
+pub mod ConflictProofs
+pub mod PassProofs
+pub mod ForApply
+pub mod OverlapProofs
+pub mod OneAnswer

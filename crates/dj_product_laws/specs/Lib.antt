@@ -1,0 +1,9 @@
+pub mod OperationFaults
+pub mod Passes
+pub mod LeastPairs
+pub mod LineConflicts
+pub mod Overlaps
+pub mod OverlapLaws
+pub mod PartFaults
+pub mod OnePass
+pub mod Laws
