@@ -1,0 +1,13 @@
+pub mod JavaWords
+pub mod Bits
+pub mod BitTokens
+pub mod Said
+pub mod SaidExpressions
+pub mod SaidLines
+pub mod SaidMembers
+pub mod SaidClasses
+pub mod PlainBodies
+pub mod ReadBack
+pub mod VersionWords
+pub mod FlatForms
+pub mod WritableProducts
