@@ -12,9 +12,10 @@ pub struct Found {
 }
 
 impl Table {
-    ghost use Rattle.std.specs.Prelude.{◌≡◌, ◌<◌, None, Some, length, MatchOption, Decides};
+    ghost use Rattle.std.specs.Prelude.{◌≡◌, ◌<◌, None, Some, length, IfSome, MatchOption, Decides};
     ghost use Rattle.dj_calculus.specs.Subclasses.{class_kind, Below, Above};
     ghost use Rattle.ifj_table.specs.Entries.{plain_field, plain_method};
+    ghost use Rattle.ifj_table.specs.Held.{IsMethodEntry};
     ghost use Rattle.ifj_table.specs.Tables.{plain_table, table_names, table_nodes, name_text};
     ghost use Rattle.ifj_table.specs.Lookups.{own_field, own_method, IsFoundField, IsFoundMethod, HasNoField, HasNoMethod};
 
@@ -36,8 +37,9 @@ impl Table {
 
     /// The method of this name that the class of this name has itself, likewise.
     pub fn own_method(&self, class: &str, method: &str) -> Option<&MethodEntry>
-        ensures { MatchOption result (own_method (plain_table self.now) class.now method.now ≡ None)
+        ensures found { MatchOption result (own_method (plain_table self.now) class.now method.now ≡ None)
             (λ entry. own_method (plain_table self.now) class.now method.now ≡ Some (plain_method (table_names self.now) (table_nodes self.now) entry.now)) }
+        ensures held { IfSome result (λ entry. IsMethodEntry (table_names self.now) (table_nodes self.now) entry.now) }
     {
         let entry = match self.class_named(class) {
             Some(entry) => entry,

@@ -93,6 +93,18 @@ impl Table {
         self.class_named(self.names.text(class))
     }
 
+    /// The number of the class of this name, from 0 in the order of `classes`, and `None` where the table has none.
+    pub fn class_number(&self, class: Name) -> Option<usize>
+        requires { class.0 < length (table_names self.now) }
+        ensures { MatchOption result (map.get (plain_table self.now) (name_text self.now class.0) ≡ None)
+            (λ at. slice_get (class_keys self.now) at ≡ Some (name_text self.now class.0)) }
+    {
+        match self.find_class(self.names.text(class)) {
+            Ok(at) => Some(at),
+            Err(_) => None,
+        }
+    }
+
     // The number of the class of this name, and else the number at which it would stand.
     fn find_class(&self, class: &str) -> Result<usize, usize>
         ensures { MatchResult result (λ at. slice_get (class_keys self.now) at ≡ Some class.now) (IsGap (class_keys self.now) class.now) }

@@ -32,6 +32,22 @@ fn listed(alloc: Global, table: &Table) -> Result<String, NoMemory> {
     Ok(text)
 }
 
+// A class as it stands: its place, its superclass with its place, and its fields with theirs.
+fn class_text(alloc: Global, table: &Table, class: &str) -> Result<String, NoMemory> {
+    let entry = match table.class_named(class) {
+        Some(entry) => entry,
+        None => return format!(in alloc; "none"),
+    };
+    let parent = table.names().text(entry.parent.name);
+    let mut text = format!(in alloc; "{} {parent} {}:", entry.spot.at, entry.parent.at)?;
+    for field in entry.fields.as_slice() {
+        let name = table.names().text(field.spot.name);
+        let kind = table.names().text(field.kind.name);
+        text.push_str(format!(in alloc; " {kind} {name} {}", field.spot.at)?.as_str())?;
+    }
+    Ok(text)
+}
+
 #[test]
 fn classes_stand_by_their_names(rt: HostRuntime) -> Result<(), Fail> {
     let orders = [
@@ -124,5 +140,131 @@ fn members_are_found_along_the_chain(rt: HostRuntime) -> Result<(), Fail> {
     for (lower, upper, below) in rows {
         assert_eq!(rt; is_below(&table, lower, upper), below);
     }
+    Ok(())
+}
+
+// Takes a class out, where it is there.
+fn remove(table: &mut Table, class: &str)
+    ensures { length (table_names table.new) ≤ length (table_names table.old) }
+{
+    if table.class_named(class).is_some() {
+        table.remove_class(class);
+    }
+}
+
+// Takes a field out of a class, where the class has it.
+fn remove_field(table: &mut Table, class: &str, field: &str)
+    ensures { length (table_names table.new) ≤ length (table_names table.old) }
+{
+    if table.class_named(class).is_none() {
+        return;
+    }
+    if table.own_field(class, field).is_some() {
+        table.remove_field(class, field);
+    }
+}
+
+// Gives a class another superclass, where the class is there.
+fn set_parent(table: &mut Table, class: &str, parent: &str, at: u32) -> Result<(), NoMemory>
+    requires { length (table_names table.old) + 1 < 2 ^ 32 }
+    ensures { length (table_names table.new) ≤ length (table_names table.old) + 1 }
+{
+    match table.class_named(class) {
+        Some(_) => table.set_parent(class, parent, at),
+        None => Ok(()),
+    }
+}
+
+#[test]
+fn declarations_in_force_are_kept(rt: HostRuntime) -> Result<(), Fail> {
+    let alloc = rt.alloc();
+    let mut table = Table::new(alloc);
+    add(&mut table, "C", "A", 1)?;
+    add_field(&mut table, "C", "g", 2)?;
+    add_field(&mut table, "C", "ß", 3)?;
+    add_field(&mut table, "C", "f", 4)?;
+    assert_eq!(rt;
+        class_text(alloc, &table, "C")?.as_str(),
+        "1 A 1: Object f 4 Object g 2 Object ß 3"
+    );
+    set_parent(&mut table, "C", "B", 5)?;
+    remove_field(&mut table, "C", "g");
+    assert_eq!(rt;
+        class_text(alloc, &table, "C")?.as_str(),
+        "1 B 5: Object f 4 Object ß 3"
+    );
+    add_field(&mut table, "C", "g", 6)?;
+    assert_eq!(rt;
+        class_text(alloc, &table, "C")?.as_str(),
+        "1 B 5: Object f 4 Object g 6 Object ß 3"
+    );
+    remove(&mut table, "C");
+    assert_eq!(rt; class_text(alloc, &table, "C")?.as_str(), "none");
+    add(&mut table, "C", "A", 7)?;
+    assert_eq!(rt; class_text(alloc, &table, "C")?.as_str(), "7 A 7:");
+    Ok(())
+}
+
+// A table with the most names that it may have.
+#[derive(Drop)]
+struct Filled {
+    table: Table,
+    most: u64,
+    ghost few: { length (table_names table) ≤ most },
+}
+
+impl Filled {
+    fn add_class(&mut self, class: &str) -> Result<(), NoMemory> {
+        if self.most > 4_000_000_000
+            || class == "Object"
+            || self.table.class_named(class).is_some()
+        {
+            return Ok(());
+        }
+        self.most += 2;
+        self.table.add_class(class, "Object", 0, 0)
+    }
+
+    fn add_field(&mut self, class: &str, field: &str) -> Result<(), NoMemory> {
+        if self.most > 4_000_000_000 || self.table.class_named(class).is_none() {
+            return Ok(());
+        }
+        if self.table.own_field(class, field).is_some() {
+            return Ok(());
+        }
+        self.most += 2;
+        self.table.add_field(class, field, "Object", 0, 0)
+    }
+}
+
+#[test]
+fn many_classes_and_fields_are_entered(rt: HostRuntime) -> Result<(), Fail> {
+    let alloc = rt.alloc();
+    let mut shuffled = Filled {
+        table: Table::new(alloc),
+        most: 0,
+    };
+    let mut number: u32 = 1;
+    for _turn in 0..20_000 {
+        number = number.wrapping_mul(1_664_525).wrapping_add(1_013_904_223);
+        shuffled.add_class(format!(in alloc; "C{number}")?.as_str())?;
+    }
+    assert_eq!(rt; shuffled.table.classes().len(), 20_000);
+    let mut rising = Filled {
+        table: Table::new(alloc),
+        most: 0,
+    };
+    for turn in 100_000..150_000 {
+        rising.add_class(format!(in alloc; "C{turn}")?.as_str())?;
+    }
+    assert_eq!(rt; rising.table.classes().len(), 50_000);
+    for turn in 100_000..300_000 {
+        rising.add_field("C100000", format!(in alloc; "f{turn}")?.as_str())?;
+    }
+    let entry = rising.table.class_named("C100000");
+    assert_eq!(rt;
+        entry.map(|class| class.fields.as_slice().len()),
+        Some(200_000)
+    );
     Ok(())
 }

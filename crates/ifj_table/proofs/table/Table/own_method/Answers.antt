@@ -9,13 +9,13 @@ use Rattle.ifj_table.specs.Sorted.{AreRising, IsGap}
 use Rattle.ifj_table.specs.Entries.{plain_class, plain_method}
 use Rattle.ifj_table.specs.Held.{IsMethodEntry}
 use Rattle.ifj_table.proofs.EntryMaps.{got_at, missing_in_gap}
-use Rattle.ifj_table.proofs.TableLemmas.{place_within, element_is}
+use Rattle.ifj_table.proofs.TableLemmas.{place_within, element_is, all_at}
 use Rattle.ifj_table.proofs.MemberLemmas.{behind, method_key}
 use Rattle.ifj_table.proofs.Inherited.{entry_held}
 use Rattle.ifj_table.proofs.table.Table.own_method.Goals as goal
 
-pub returns-in-None : goal.returns-in-None
-returns-in-None c = ap (option_and_then (λ e. get e.methods c.args.method.now)) c.in-None.ensures.found
+pub returns-in-None-clause-found : goal.returns-in-None-clause-found
+returns-in-None-clause-found c = ap (option_and_then (λ e. get e.methods c.args.method.now)) c.in-None.ensures.found
 
 pub search-requires-clause-known : goal.search-requires-clause-known
 search-requires-clause-known c =
@@ -36,8 +36,8 @@ index-requires c =
     let here = subst (λ es. slice_get (map (method_key t.names) es) c.in-Ok.at ≡ Some c.args.method.now) c.as_slice.ensures.value c.in-Ok.ensures in
     omega (arith, place_within (method_key t.names) class.methods.items c.in-Ok.at c.args.method.now here, class.methods.ok.0)
 
-pub returns-in-Ok : goal.returns-in-Ok
-returns-in-Ok c =
+pub returns-in-Ok-clause-found : goal.returns-in-Ok-clause-found
+returns-in-Ok-clause-found c =
     let t = c.args.self.now in
     let class = c.in-Some.entry.now in
     let is = entry_held t c.args.class.now class c.in-Some.ensures.class in
@@ -47,8 +47,17 @@ returns-in-Ok c =
     let same : it.0 ≡ c.index.result.now = cc in
     behind (λ e. get e.methods c.args.method.now) _ (plain_class t.names t.exprs class) c.in-Some.ensures.found ∙ it.3 ∙ ap (λ (e : MethodEntry). Some (plain_method t.names t.exprs e)) same
 
-pub returns-in-Err : goal.returns-in-Err
-returns-in-Err c =
+pub returns-in-Ok-clause-held : goal.returns-in-Ok-clause-held
+returns-in-Ok-clause-held c =
+    let t = c.args.self.now in
+    let class = c.in-Some.entry.now in
+    let is = entry_held t c.args.class.now class c.in-Some.ensures.class in
+    let here = subst (λ es. slice_get (map (method_key t.names) es) c.in-Ok.at ≡ Some c.args.method.now) c.as_slice.ensures.value c.in-Ok.ensures in
+    let stands = element_is class.methods.items c.in-Ok.at c.index.result.now (place_within (method_key t.names) class.methods.items c.in-Ok.at c.args.method.now here) c.index.ensures in
+    all_at (IsMethodEntry t.names t.exprs) class.methods.items c.in-Ok.at c.index.result.now is.methods stands
+
+pub returns-in-Err-clause-found : goal.returns-in-Err-clause-found
+returns-in-Err-clause-found c =
     let t = c.args.self.now in
     let class = c.in-Some.entry.now in
     let gap = subst (λ es. IsGap (map (method_key t.names) es) c.args.method.now c.in-Err.field-0) c.as_slice.ensures.value c.in-Err.ensures in
