@@ -1,0 +1,17 @@
+pub mod Leasts
+pub mod OneRule
+pub mod Parts
+pub mod Owners
+pub mod LastNamed
+pub mod Fitting
+pub mod Shapes
+pub mod Walked
+pub mod BodyFaults
+pub mod Stating
+pub mod Walking
+pub mod Overriding
+pub mod Entries
+pub mod RulesStand
+pub mod RuleCases
+pub mod Layers
+pub mod Expressions

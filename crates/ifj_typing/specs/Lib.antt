@@ -1,0 +1,12 @@
+pub mod Least
+pub mod Kinds
+pub mod Said
+pub mod Arguments
+pub mod Scopes
+pub mod Bodies
+pub mod Declarations
+pub mod Chains
+pub mod Owned
+pub mod Broken
+pub mod Parameters
+pub mod Codes

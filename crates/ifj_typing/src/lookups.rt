@@ -1,0 +1,118 @@
+//! What a table says of the types of expressions.
+ghost use Rattle.std.specs.Prelude.{◌≡◌, ◌<◌, length, Decides, MatchOption, IfSome};
+ghost use Rattle.dj_calculus.specs.Tables.{heading_of};
+ghost use Rattle.dj_calculus.specs.Subclasses.{Exists, class_kind, Below, FieldOf, MethodOf};
+ghost use Rattle.dj_calculus.specs.BodyRules.{HasField, HasMethod};
+ghost use Rattle.ifj_table.specs.Tables.{plain_table, table_names, table_nodes};
+ghost use Rattle.ifj_table.specs.Entries.{plain_signature};
+ghost use Rattle.ifj_table.specs.Held.{IsMethodEntry};
+ghost use Rattle.ifj_table.specs.Lookups.{HasNoMethod};
+ghost use Rattle.ifj_typing.specs.Owned.{IsOwned};
+ghost use Rattle.ifj_typing.specs.Kinds.{text_of, plain_kind, IsKnownKind};
+
+use crate::kind::Kind;
+use dj_names::Name;
+use ifj_table::{ClassEntry, MethodEntry, Table};
+
+/// Whether a class exists: it is in the table, or is `Object`.
+pub fn exists(table: &Table, class: Name) -> bool
+    requires { class.0 < length (table_names table.now) }
+    ensures { Decides result (Exists (plain_table table.now) (text_of (table_names table.now) class)) }
+{
+    if table.names().text(class) == "Object" {
+        return true;
+    }
+    match table.class_of(class) {
+        Some(_) => true,
+        None => false,
+    }
+}
+
+/// Whether a type is below a class.
+pub fn is_below(table: &Table, kind: Kind, class: Name) -> bool
+    requires kind { IsKnownKind (table_names table.now) kind }
+    requires class { class.0 < length (table_names table.now) }
+    ensures { Decides result (Below (plain_table table.now) (plain_kind (table_names table.now) kind) (class_kind (text_of (table_names table.now) class))) }
+{
+    match kind {
+        Kind::Null => true,
+        Kind::Class(lower) => table.is_subclass(lower, class),
+    }
+}
+
+/// Whether a class is below a type.
+pub fn is_above(table: &Table, kind: Kind, class: Name) -> bool
+    requires kind { IsKnownKind (table_names table.now) kind }
+    requires class { class.0 < length (table_names table.now) }
+    ensures { Decides result (Below (plain_table table.now) (class_kind (text_of (table_names table.now) class)) (plain_kind (table_names table.now) kind)) }
+{
+    match kind {
+        Kind::Null => false,
+        Kind::Class(upper) => table.is_subclass(class, upper),
+    }
+}
+
+/// The type of the field of this name that a class has or inherits.
+pub fn field_type(table: &Table, class: Name, field: Name) -> Option<Name>
+    requires class { class.0 < length (table_names table.now) }
+    requires field { field.0 < length (table_names table.now) }
+    ensures found { MatchOption result
+        (¬ (HasField (plain_table table.now) (text_of (table_names table.now) class) (text_of (table_names table.now) field)))
+        (λ kind. FieldOf (plain_table table.now) (text_of (table_names table.now) class) (text_of (table_names table.now) field) (text_of (table_names table.now) kind)) }
+    ensures known { IfSome result (λ kind. kind.0 < length (table_names table.now)) }
+{
+    let found = match table.find_field(class, field) {
+        Some(found) => found,
+        None => return None,
+    };
+    let owner = match table.class_of(found.owner) {
+        Some(owner) => owner,
+        None => return None,
+    };
+    Some(owner.fields[found.place].kind.name)
+}
+
+/// A method with the class that has it.
+#[derive(Drop)]
+pub struct Owned<'a> {
+    pub class: &'a ClassEntry,
+    pub method: &'a MethodEntry,
+}
+
+/// The method of this name that a class has or inherits, and the class that has it.
+pub fn owned_method(table: &Table, class: Name, method: Name) -> Option<Owned<'_>>
+    requires class { class.0 < length (table_names table.now) }
+    requires method { method.0 < length (table_names table.now) }
+    ensures { MatchOption result
+        (HasNoMethod table.now (text_of (table_names table.now) class) (text_of (table_names table.now) method))
+        (λ owned. IsOwned table.now (text_of (table_names table.now) class) (text_of (table_names table.now) method) owned.class.now owned.method.now) }
+{
+    let found = match table.find_method(class, method) {
+        Some(found) => found,
+        None => return None,
+    };
+    let owner = match table.class_of(found.owner) {
+        Some(owner) => owner,
+        None => return None,
+    };
+    Some(Owned {
+        class: owner,
+        method: &owner.methods[found.place],
+    })
+}
+
+/// The method of this name that a class has or inherits.
+pub fn method_of(table: &Table, class: Name, method: Name) -> Option<&MethodEntry>
+    requires class { class.0 < length (table_names table.now) }
+    requires method { method.0 < length (table_names table.now) }
+    ensures found { MatchOption result
+        (¬ (HasMethod (plain_table table.now) (text_of (table_names table.now) class) (text_of (table_names table.now) method)))
+        (λ entry. MethodOf (plain_table table.now) (text_of (table_names table.now) class) (text_of (table_names table.now) method)
+        (heading_of (plain_signature (table_names table.now) entry.now))) }
+    ensures held { IfSome result (λ entry. IsMethodEntry (table_names table.now) (table_nodes table.now) entry.now) }
+{
+    match owned_method(table, class, method) {
+        Some(owned) => Some(owned.method),
+        None => None,
+    }
+}

@@ -1,0 +1,318 @@
+//! Tables whose classes have methods.
+ghost use Rattle.std.specs.Prelude.{◌≡◌, ◌+◌, ◌^◌, ◌-◌, ◌<◌, ◌≤◌, All, None, length, IsSome, IfOk, IfSome};
+ghost use Rattle.std.specs.FinMap as map;
+ghost use Rattle.dj_names.specs.Texts.{Extends};
+ghost use Rattle.dj_tree.specs.Plain.{plain_spot};
+ghost use Rattle.dj_tree.specs.WellFormed.{IsKnown, IsField, IsExprNode};
+ghost use Rattle.ifj_table.specs.Tables.{plain_table, table_names, table_nodes};
+ghost use Rattle.ifj_table.specs.Lookups.{own_method};
+ghost use Rattle.ifj_typing.specs.Codes.{IsCode};
+
+use super::tests::{add_class, add_field};
+use super::*;
+use Step::{Assign, Call, Cast, Field, New, Null, Original, This, Variable};
+use arena_walk::{Arena, NodeId, Shape};
+use dj_names::Names;
+use dj_tree::{ExprNode, FieldDecl, Listed, Method, Spot};
+use ifj_table::Table;
+use std::alloc::{AllocError as NoMemory, Global};
+use std::test::Fail;
+
+// A node of an expression, by the text that it says.
+#[derive(Clone, Copy, Debug)]
+enum Step {
+    Variable(&'static str),
+    This,
+    Null,
+    Field(&'static str),
+    Call(&'static str, u32),
+    New(&'static str),
+    Cast(&'static str),
+    Assign(&'static str),
+    Original(u32),
+}
+
+// An expression with the names that it says.
+#[derive(Drop)]
+struct Code {
+    names: Names,
+    exprs: Arena<ExprNode>,
+    root: NodeId,
+}
+
+// A name at a place.
+fn spot_of(names: &mut Names, text: &str, at: u32) -> Result<Spot, NoMemory>
+    requires { length names.old + 1 < 2 ^ 32 }
+    ensures known { IfOk result (IsKnown names.new) }
+    ensures says { IfOk result (λ spot. (plain_spot names.new spot).text ≡ text.now) }
+    ensures numbers { Extends names.old names.new }
+    ensures few { length names.new ≤ length names.old + 1 }
+{
+    let name = names.add(text)?;
+    Ok(Spot { name, at })
+}
+
+fn node_of(names: &mut Names, step: Step, at: u32) -> Result<ExprNode, NoMemory>
+    requires { length names.old + 1 < 2 ^ 32 }
+    ensures known { IfOk result (IsExprNode names.new) }
+    ensures numbers { Extends names.old names.new }
+    ensures few { length names.new ≤ length names.old + 1 }
+{
+    match step {
+        Step::Variable(x) => Ok(ExprNode::Variable(spot_of(names, x, at)?)),
+        Step::This => Ok(ExprNode::This(at)),
+        Step::Null => Ok(ExprNode::Null(at)),
+        Step::Field(field) => Ok(ExprNode::Field(spot_of(names, field, at)?)),
+        Step::Call(method, arguments) => Ok(ExprNode::Call(spot_of(names, method, at)?, arguments)),
+        Step::New(class) => Ok(ExprNode::New(spot_of(names, class, at)?)),
+        Step::Cast(class) => Ok(ExprNode::Cast(spot_of(names, class, at)?)),
+        Step::Assign(field) => Ok(ExprNode::Assign(spot_of(names, field, at)?)),
+        Step::Original(arguments) => Ok(ExprNode::Original(at, arguments)),
+    }
+}
+
+// The expression of these nodes in post-order, the first at a place and each behind at the next. None where they are no
+// nodes, or where a node finds too few parts.
+fn code_of(alloc: Global, steps: &[Step], at: u32) -> Result<Option<Code>, NoMemory>
+    requires few { length steps.now ≤ 20 }
+    requires small { at < 1000000 }
+    ensures { IfOk result (λ made. IfSome made (λ code. IsCode code.names code.exprs code.root.0)) }
+{
+    if steps.is_empty() {
+        return Ok(None);
+    }
+    let mut names = Names::new(alloc);
+    let mut exprs = Arena::new(alloc);
+    let mut finished = 0;
+    let mut root = NodeId(0);
+    for (number, step) in steps.iter().enumerate() {
+        let node = node_of(&mut names, *step, at + number as u32)?;
+        let arity = node.arity();
+        if finished < arity {
+            return Ok(None);
+        }
+        root = exprs.push(node)?;
+        finished = finished - arity + 1;
+    }
+    Ok(Some(Code { names, exprs, root }))
+}
+
+// No parameter or one, with its type. The type stands at a place, and the name behind it.
+fn parameters_of(
+    alloc: Global,
+    names: &mut Names,
+    parameter: Option<(&'static str, &'static str)>,
+    at: u32,
+) -> Result<Listed<FieldDecl>, NoMemory>
+    requires room { length names.old + 2 < 2 ^ 32 }
+    requires small { at < 1000000 }
+    ensures known { IfOk result (λ list. All (IsField names.new) list) }
+    ensures short { IfOk result (λ list. length list ≤ 1) }
+    ensures numbers { Extends names.old names.new }
+    ensures few { length names.new ≤ length names.old + 2 }
+{
+    let mut list = Vec::new(alloc);
+    if let Some((kind, name)) = parameter {
+        let kind = spot_of(names, kind, at)?;
+        let spot = spot_of(names, name, at + 1)?;
+        list.push(FieldDecl { kind, spot })?;
+    }
+    Ok(Listed::from_vec(list))
+}
+
+// A method of a class, with no parameter or one, and its body.
+#[derive(Clone, Copy, Debug)]
+struct Row {
+    class: &'static str,
+    result: &'static str,
+    name: &'static str,
+    parameter: Option<(&'static str, &'static str)>,
+    steps: &'static [Step],
+}
+
+// Declares a method that its class doesn't have. Its result type stands at a place, and behind it its name, its
+// parameter's type and name, and from ten on its nodes.
+fn declare(alloc: Global, table: &mut Table, row: Row, at: u32) -> Result<(), NoMemory>
+    requires there { IsSome (map.get (plain_table table.old) row.class.now) }
+    requires absent { own_method (plain_table table.old) row.class.now row.name.now ≡ None }
+    requires steps { length row.steps.now ≤ 20 }
+    requires small { at < 100000 }
+    requires room { length (table_names table.old) + 50 < 2 ^ 32 }
+    requires space { length (table_nodes table.old) + 20 < 2 ^ 32 - 1 }
+    ensures few_names { length (table_names table.new) ≤ length (table_names table.old) + 50 }
+    ensures few_nodes { length (table_nodes table.new) ≤ length (table_nodes table.old) + 20 }
+{
+    match code_of(alloc, row.steps, at + 10)? {
+        Some(code) => add_method(alloc, table, row, code, at),
+        None => Ok(()),
+    }
+}
+
+fn add_method(
+    alloc: Global,
+    table: &mut Table,
+    row: Row,
+    code: Code,
+    at: u32,
+) -> Result<(), NoMemory>
+    requires there { IsSome (map.get (plain_table table.old) row.class.now) }
+    requires absent { own_method (plain_table table.old) row.class.now row.name.now ≡ None }
+    requires code { IsCode code.names code.exprs code.root.0 }
+    requires small { at < 100000 }
+    requires room { length (table_names table.old) + 50 < 2 ^ 32 }
+    requires space { length (table_nodes table.old) + 20 < 2 ^ 32 - 1 }
+    ensures few_names { length (table_names table.new) ≤ length (table_names table.old) + 50 }
+    ensures few_nodes { length (table_nodes table.new) ≤ length (table_nodes table.old) + 20 }
+{
+    let Code {
+        mut names,
+        exprs,
+        root,
+    } = code;
+    let result = spot_of(&mut names, row.result, at)?;
+    let spot = spot_of(&mut names, row.name, at + 1)?;
+    let parameters = parameters_of(alloc, &mut names, row.parameter, at + 2)?;
+    let _first = exprs.first(root);
+    let method = Method {
+        result,
+        spot,
+        parameters,
+        body: root,
+    };
+    table.add_method(row.class, &names, &method, &exprs)
+}
+
+// Declares a method where its class is there and doesn't have it, and its body is short.
+fn add_row(alloc: Global, table: &mut Table, row: Row, at: u32) -> Result<(), NoMemory>
+    requires small { at < 100000 }
+    requires room { length (table_names table.old) + 50 < 2 ^ 32 }
+    requires space { length (table_nodes table.old) + 20 < 2 ^ 32 - 1 }
+    ensures few_names { length (table_names table.new) ≤ length (table_names table.old) + 50 }
+    ensures few_nodes { length (table_nodes table.new) ≤ length (table_nodes table.old) + 20 }
+{
+    if row.steps.len() > 20 || table.class_named(row.class).is_none() {
+        return Ok(());
+    }
+    match table.own_method(row.class, row.name) {
+        Some(_) => Ok(()),
+        None => declare(alloc, table, row, at),
+    }
+}
+
+// The rule and the place of the least instance of a table with these methods, the first at 200 and the second at 250. Its
+// classes are A, B below A, and E; A has a field f of the type B.
+fn broken(alloc: Global, first: Row, second: Option<Row>) -> Result<Option<(u8, u32)>, NoMemory> {
+    let mut table = Table::new(alloc);
+    add_class(&mut table, "A", "Object", 0)?;
+    add_class(&mut table, "B", "A", 10)?;
+    add_class(&mut table, "E", "Object", 20)?;
+    add_field(&mut table, "A", "B", "f", 100)?;
+    add_row(alloc, &mut table, first, 200)?;
+    if let Some(second) = second {
+        add_row(alloc, &mut table, second, 250)?;
+    }
+    match type_table(alloc, &table) {
+        Ok(()) => Ok(None),
+        Err(TypeError::Broken(instance)) => Ok(Some((instance.rule, instance.at))),
+        Err(TypeError::NoMemory) => Err(NoMemory),
+    }
+}
+
+fn without_parameter(
+    class: &'static str,
+    kind: &'static str,
+    name: &'static str,
+    steps: &'static [Step],
+) -> Row {
+    Row {
+        class,
+        result: kind,
+        name,
+        parameter: None,
+        steps,
+    }
+}
+
+// A method of A without parameters.
+fn of_a(kind: &'static str, steps: &'static [Step]) -> Row {
+    without_parameter("A", kind, "m", steps)
+}
+
+#[test]
+fn bodies_are_judged(rt: HostRuntime) -> Result<(), Fail> {
+    let rows: [(Row, Option<(u8, u32)>); 22] = [
+        (of_a("A", &[This]), None),
+        (of_a("B", &[This, Field("f")]), None),
+        (of_a("B", &[This, New("B"), Assign("f")]), None),
+        (of_a("E", &[Null, Cast("E")]), None),
+        (
+            of_a("B", &[This, Cast("Object"), Cast("A"), Cast("B")]),
+            None,
+        ),
+        // an unknown type, and each rule of bodies at its place
+        (of_a("Lost", &[This]), Some((11, 200))),
+        (of_a("A", &[Variable("x")]), Some((14, 210))),
+        (of_a("A", &[New("Lost")]), Some((15, 210))),
+        (of_a("A", &[This, Cast("Lost")]), Some((15, 211))),
+        (of_a("A", &[This, Field("g")]), Some((16, 211))),
+        (of_a("A", &[This, Call("k", 0)]), Some((17, 211))),
+        (of_a("A", &[This, This, Call("m", 1)]), Some((18, 212))),
+        (of_a("A", &[This, Original(1)]), Some((18, 211))),
+        (of_a("B", &[This, New("E"), Assign("f")]), Some((20, 212))),
+        (of_a("B", &[This]), Some((21, 210))),
+        (of_a("A", &[New("E"), Cast("A")]), Some((22, 211))),
+        (of_a("A", &[Null, Field("f")]), Some((23, 211))),
+        (of_a("A", &[Null, This, Call("m", 1)]), Some((23, 212))),
+        // a part without a type hides what is around it
+        (
+            of_a("A", &[This, Variable("x"), Call("k", 1)]),
+            Some((14, 211)),
+        ),
+        (of_a("A", &[Variable("x"), Cast("Lost")]), Some((14, 210))),
+        // the least rule of a body, and its least place
+        (
+            of_a("A", &[Null, Field("f"), Variable("x"), Assign("f")]),
+            Some((14, 212)),
+        ),
+        (
+            of_a("A", &[Variable("y"), Variable("x"), Assign("f")]),
+            Some((14, 210)),
+        ),
+    ];
+    for (row, want) in rows {
+        assert_eq!(rt; broken(rt.alloc(), row, None)?, want, "{row:?}");
+    }
+    Ok(())
+}
+
+#[test]
+fn methods_are_judged(rt: HostRuntime) -> Result<(), Fail> {
+    let takes_a = Row {
+        class: "A",
+        result: "A",
+        name: "m",
+        parameter: Some(("A", "f")),
+        steps: &[Variable("f")],
+    };
+    let rows: [(Row, Option<(u8, u32)>); 6] = [
+        (
+            without_parameter("B", "A", "n", &[This, Null, Call("m", 1)]),
+            None,
+        ),
+        (
+            without_parameter("B", "A", "n", &[This, New("E"), Call("m", 1)]),
+            Some((19, 261)),
+        ),
+        (
+            without_parameter("B", "A", "n", &[This, Call("m", 0)]),
+            Some((18, 261)),
+        ),
+        (without_parameter("B", "A", "m", &[This]), Some((13, 251))),
+        (without_parameter("E", "B", "m", &[Null]), None),
+        (without_parameter("B", "E", "m", &[This]), Some((13, 251))),
+    ];
+    for (row, want) in rows {
+        assert_eq!(rt; broken(rt.alloc(), takes_a, Some(row))?, want, "{row:?}");
+    }
+    Ok(())
+}

@@ -1,0 +1,142 @@
+//! Tables whose classes have fields alone.
+ghost use Rattle.std.specs.Prelude.{◌≡◌, ◌+◌, ◌*◌, ◌^◌, ◌<◌, ◌≤◌, length};
+ghost use Rattle.ifj_table.specs.Tables.{table_names, table_nodes};
+
+use super::*;
+use ifj_table::Table;
+use std::alloc::{AllocError as NoMemory, Global};
+use std::test::Fail;
+
+// Adds a class, where there is none of its name. Its superclass is named five bytes behind it.
+pub fn add_class(table: &mut Table, class: &str, parent: &str, at: u32) -> Result<(), NoMemory>
+    requires room { length (table_names table.old) + 2 < 2 ^ 32 }
+    requires small { at < 1000000 }
+    ensures few { length (table_names table.new) ≤ length (table_names table.old) + 2 }
+    ensures nodes { table_nodes table.new ≡ table_nodes table.old }
+{
+    if class == "Object" {
+        return Ok(());
+    }
+    match table.class_named(class) {
+        Some(_) => Ok(()),
+        None => table.add_class(class, parent, at, at + 5),
+    }
+}
+
+// Adds a field, where the class is there and has none of this name. It is named five bytes behind its type.
+pub fn add_field(
+    table: &mut Table,
+    class: &str,
+    kind: &str,
+    field: &str,
+    at: u32,
+) -> Result<(), NoMemory>
+    requires room { length (table_names table.old) + 2 < 2 ^ 32 }
+    requires small { at < 1000000 }
+    ensures few { length (table_names table.new) ≤ length (table_names table.old) + 2 }
+    ensures nodes { table_nodes table.new ≡ table_nodes table.old }
+{
+    if table.class_named(class).is_none() {
+        return Ok(());
+    }
+    match table.own_field(class, field) {
+        Some(_) => Ok(()),
+        None => table.add_field(class, field, kind, at + 5, at),
+    }
+}
+
+// The table of these classes with their superclasses, the first at 0, the next at 10 and so on, and of these fields, each
+// with its class and its type, from 100 on.
+fn table_of(
+    alloc: Global,
+    classes: &[(&str, &str)],
+    fields: &[(&str, &str, &str)],
+) -> Result<Table, NoMemory>
+    requires classes { length classes.now ≤ 10 }
+    requires fields { length fields.now ≤ 10 }
+{
+    let mut table = Table::new(alloc);
+    'classes: for (number, (class, parent)) in classes.iter().enumerate() {
+        add_class(&mut table, class, parent, number as u32 * 10)?;
+    }
+    'fields: for (number, (class, kind, field)) in fields.iter().enumerate() {
+        add_field(&mut table, class, kind, field, 100 + number as u32 * 10)?;
+    }
+    Ok(table)
+}
+
+// The rule and the place of the least instance of the table of these classes and fields.
+fn broken(
+    alloc: Global,
+    classes: &[(&str, &str)],
+    fields: &[(&str, &str, &str)],
+) -> Result<Option<(u8, u32)>, NoMemory>
+    requires classes { length classes.now ≤ 10 }
+    requires fields { length fields.now ≤ 10 }
+{
+    let table = table_of(alloc, classes, fields)?;
+    match type_table(alloc, &table) {
+        Ok(()) => Ok(None),
+        Err(TypeError::Broken(instance)) => Ok(Some((instance.rule, instance.at))),
+        Err(TypeError::NoMemory) => Err(NoMemory),
+    }
+}
+
+type Row = (
+    &'static [(&'static str, &'static str)],
+    &'static [(&'static str, &'static str, &'static str)],
+    Option<(u8, u32)>,
+);
+
+#[test]
+fn declarations_are_judged(rt: HostRuntime) -> Result<(), Fail> {
+    let rows: [Row; 14] = [
+        (&[], &[], None),
+        (
+            &[("A", "Object"), ("B", "A")],
+            &[("A", "B", "b"), ("B", "Object", "o")],
+            None,
+        ),
+        // an unknown superclass, circles, a class below one, an unknown type, a hidden field
+        (&[("A", "Lost")], &[], Some((9, 5))),
+        (&[("A", "A")], &[], Some((10, 5))),
+        (&[("Z", "Y"), ("Y", "Z")], &[], Some((10, 5))),
+        (&[("C", "Z"), ("Z", "Y"), ("Y", "Z")], &[], Some((10, 5))),
+        (&[("A", "Object")], &[("A", "Lost", "f")], Some((11, 100))),
+        (
+            &[("A", "Object"), ("B", "A"), ("C", "B")],
+            &[("A", "A", "f"), ("B", "B", "g"), ("C", "C", "f")],
+            Some((12, 125)),
+        ),
+        // the least place of a rule, wherever its class stands among the others
+        (&[("B", "Lost"), ("A", "Lost")], &[], Some((9, 5))),
+        (
+            &[("A", "Object"), ("B", "Object")],
+            &[("B", "Lost", "f"), ("A", "Lost", "f")],
+            Some((11, 100)),
+        ),
+        // the lesser rule, and the lower layer
+        (&[("A", "A"), ("B", "Lost")], &[], Some((9, 15))),
+        (&[("A", "A")], &[("A", "Lost", "f")], Some((10, 5))),
+        (
+            &[("A", "Object"), ("B", "A")],
+            &[("A", "A", "f"), ("B", "A", "f"), ("B", "Lost", "g")],
+            Some((11, 120)),
+        ),
+        (
+            &[("A", "B"), ("B", "A")],
+            &[("A", "A", "f"), ("B", "B", "f")],
+            Some((10, 5)),
+        ),
+    ];
+    for (classes, fields, want) in rows {
+        assert!(rt; classes.len() <= 10);
+        assert!(rt; fields.len() <= 10);
+        assert_eq!(rt;
+            broken(rt.alloc(), classes, fields)?,
+            want,
+            "{classes:?} {fields:?}"
+        );
+    }
+    Ok(())
+}
