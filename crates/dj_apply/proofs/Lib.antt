@@ -1,0 +1,16 @@
+pub mod LeastLemmas
+pub mod JudgeLemmas
+pub mod SignatureLemmas
+pub mod Taking
+pub mod AddedClasses
+pub mod BodyNodes
+pub mod StepLemmas
+pub mod MemberLists
+pub mod Applied
+pub mod TouchLemmas
+pub mod OverlapLemmas
+pub mod AttemptLemmas
+pub mod ReadyLemmas
+pub mod PartLemmas
+pub mod PassLemmas
+pub mod ConflictLemmas

@@ -1,0 +1,9 @@
+use Rattle.dj_tree.specs.Plain.{plain_spot}
+use Rattle.ifj_table.specs.Tables.{plain_table}
+use Rattle.dj_apply.proofs.StepLemmas.{field_cut, text_read}
+use Rattle.dj_apply.proofs.growing.GrowingTable.remove_field.Goals as goal
+
+pub returns : goal.returns
+returns c =
+    field_cut (plain_table c.args.self.now.table) c.args.class.now (plain_table c.remove_field.new.self) (plain_spot c.args.names.now c.args.field) c.text.result.now
+    (text_read c.args.names.now c.args.field c.text.result.now c.text.ensures) c.requires.can c.remove_field.ensures.removed

@@ -1,0 +1,10 @@
+pub mod Least
+pub mod Judging
+pub mod Taking
+pub mod Ready
+pub mod Members
+pub mod Touched
+pub mod Overlaps
+pub mod Attempts
+pub mod ActiveOperations
+pub mod ApplyErrors
