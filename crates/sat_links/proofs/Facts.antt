@@ -1,5 +1,5 @@
 -- What queues of variables and lists of watches tell. Crates above may cite these.
-use Rattle.std.proofs.Common.{◌≡◌, ◌≢◌, ℕ, ◌+◌, ◌-◌, ◌*◌, ◌<◌, ◌≤◌, zero, suc, Bool, true, false, not, cond, List, [], ◌∷◌, ◌++◌, length, get_or, take, drop, slice_get, All, Contains, Some, refl, sym, ap, ◌∙◌, subst, arith}
+use Rattle.std.proofs.Common.{◌≡◌, ◌≢◌, ℕ, ◌+◌, ◌-◌, ◌*◌, ◌<◌, ◌≤◌, zero, suc, Bool, true, false, not, cond, List, [], ◌∷◌, ◌++◌, length, get_or, replicate, take, drop, slice_get, All, Contains, Some, refl, sym, ap, ◌∙◌, subst, arith}
 use Rattle.std.proofs.lemmas.Bool.{false≢true}
 use Rattle.std.proofs.lemmas.List.Elements.{Contains-append_left, Contains-append_right}
 use Rattle.std.proofs.lemmas.List.FromFn.{length-range_with_len, get_or-range_with_len}
@@ -147,3 +147,22 @@ was_with (x ∷ xs) out w k at = by (same_watch out x) refl (was_with xs out w) 
     by true e rest_of k at = let rest = rest_of k at in (rest.0, (suc rest.1.0, rest.1.1))
     by false e rest_of zero at = let same : x ≡ w = cc in (λ eq. false≢true (sym e ∙ ap (same_watch out) (same ∙ sym eq) ∙ same_itself out), (0, at))
     by false e rest_of (suc k) at = let rest = rest_of k at in (rest.0, (suc rest.1.0, rest.1.1))
+
+-- lists without watches, and such lists at the end of others
+pub no_watches : (count place : ℕ) → get_or (replicate {A = List Watch} count []) place [] ≡ []
+no_watches zero place = refl
+no_watches (suc count) zero = refl
+no_watches (suc count) (suc place) = no_watches count place
+
+pub joined_none : (count : ℕ) → joined (replicate {A = List Watch} count []) ≡ []
+joined_none zero = refl
+joined_none (suc count) = joined_none count
+
+pub more_lists : (count : ℕ) (lists : List (List Watch)) (place : ℕ) → get_or (lists ++ replicate count []) place [] ≡ get_or lists place []
+more_lists count [] place = no_watches count place
+more_lists count (l ∷ ls) zero = refl
+more_lists count (l ∷ ls) (suc place) = more_lists count ls place
+
+pub joined_more : (count : ℕ) (lists : List (List Watch)) → joined (lists ++ replicate count []) ≡ joined lists
+joined_more count [] = joined_none count
+joined_more count (l ∷ ls) = ap (λ rest. l ++ rest) (joined_more count ls)

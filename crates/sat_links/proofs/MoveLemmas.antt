@@ -1,14 +1,14 @@
 -- What the calls on lists of watches read and leave.
-use Rattle.std.proofs.Common.{◌≡◌, ◌≢◌, ℕ, zero, suc, ◌+◌, ◌*◌, ◌<◌, not, List, [], ◌∷◌, ◌++◌, length, get_or, set, filter, replicate, slice_get, All, Contains, Option, None, Some, IfSome, refl, sym, ap, ◌∙◌, subst, inl, inr, add-one, arith}
+use Rattle.std.proofs.Common.{◌≡◌, ◌≢◌, ℕ, zero, suc, ◌+◌, ◌-◌, ◌*◌, ◌<◌, ◌≤◌, not, take, List, [], ◌∷◌, ◌++◌, length, get_or, set, filter, replicate, slice_get, All, Contains, Option, None, Some, IfSome, refl, sym, ap, ◌∙◌, subst, inl, inr, add-one, arith}
 use Rattle.std.specs.List.Sorted.{IsPermutation}
 use Rattle.std.proofs.lemmas.Bool.{cases_eq}
-use Rattle.std.proofs.lemmas.List.{length-set, length-append, length-replicate, replicate_more, append_assoc, get_or-set_same, get_or-set_other, get_or_append_left}
+use Rattle.std.proofs.lemmas.List.{length-set, length-append, length-replicate, replicate_more, take_all, append_assoc, get_or-set_same, get_or-set_other, get_or_append_left}
 use Rattle.std.proofs.lemmas.List.Elements.{All-head, All-tail, All-contains}
 use Rattle.std.proofs.lemmas.List.Sorted.{IsPermutation-refl, IsPermutation-trans, IsPermutation-middle, IsPermutation-cons, IsPermutation-append_left, IsPermutation-append_comm}
 use Rattle.sat_links.specs.declared.watches.Watch.{Watch}
 use Rattle.sat_links.specs.Watches.{joined, slot_of, slots_of, HasClauses, same_watch, without, StandsAfter}
 use Rattle.sat_links.specs.Links.{next_of, lists_of, LeadsTo, AllLead, IsLinked, Relinks, Cuts}
-use Rattle.sat_links.proofs.Facts.{watches_below}
+use Rattle.sat_links.proofs.Facts.{watches_below, no_watches, joined_none, more_lists, joined_more}
 use Rattle.sat_links.proofs.ApartLemmas.{Misses, Apart, Apart-middle, without_middle}
 use Rattle.sat_links.proofs.LinkLemmas.{cut_first, cut_after, put_first}
 use Rattle.sat_links.proofs.WatchLemmas.{IsBelow, Linked, same_itself, other_watch, permuted_apart, misses_each, apart_each, all_each, joined_without, joined_with, linked, lists_count, two_slots, above}
@@ -248,15 +248,6 @@ no_heads zero place = refl
 no_heads (suc count) zero = refl
 no_heads (suc count) (suc place) = no_heads count place
 
-no_watches : (count place : ℕ) → get_or (replicate {A = List Watch} count []) place [] ≡ []
-no_watches zero place = refl
-no_watches (suc count) zero = refl
-no_watches (suc count) (suc place) = no_watches count place
-
-joined_none : (count : ℕ) → joined (replicate {A = List Watch} count []) ≡ []
-joined_none zero = refl
-joined_none (suc count) = joined_none count
-
 pub linked_none : (count : ℕ) (heads : List (Option Watch)) (next : List (List (Option Watch))) → heads ≡ replicate count None → next ≡ [] → Linked heads next (replicate count [])
 linked_none count heads next heads_are none =
     let lists = replicate {A = List Watch} count [] in
@@ -268,3 +259,21 @@ pub two_more : (n : ℕ) (heads heads1 heads2 : List (Option Watch)) → heads �
 two_more n heads heads1 heads2 are one two =
     let next : heads1 ≡ replicate (2 * n + 1) None = one ∙ ap (λ l. l ++ None ∷ []) are ∙ replicate_more (2 * n) None in
     two ∙ ap (λ l. l ++ None ∷ []) next ∙ replicate_more (2 * n + 1) None ∙ ap (λ k. replicate k None) (omega arith)
+
+-- empty lists more
+more_heads : (count : ℕ) (heads : List (Option Watch)) (place : ℕ) → get_or (heads ++ replicate count None) place None ≡ get_or heads place None
+more_heads count [] place = no_heads count place
+more_heads count (h ∷ hs) zero = refl
+more_heads count (h ∷ hs) (suc place) = more_heads count hs place
+
+pub reaches : (n held : ℕ) (heads heads1 : List (Option Watch)) (next : List (List (Option Watch))) (old : List (List Watch)) → IsLinked heads next → lists_of heads next ≡ old → length old ≤ n → held ≡ length heads → heads1 ≡ take n heads ++ replicate (n - held) None
+    → Linked heads1 next (old ++ replicate (n - length old) [])
+reaches n held heads heads1 next old is old_is enough held_is heads1_is =
+    let same : length old ≡ length heads = ap length (sym old_is) ∙ lists_count heads next in
+    let count : ℕ = n - length old in
+    let grown : heads1 ≡ heads ++ replicate count None = heads1_is ∙ ap (λ hs. hs ++ replicate (n - held) None) (take_all n heads (omega arith)) ∙ ap (λ k. heads ++ replicate (n - k) None) (held_is ∙ sym same) in
+    let lead : AllLead heads1 next (old ++ replicate count []) = λ place.
+    rw (grown, more_heads count heads place, more_lists count old place) (subst (λ ls. LeadsTo next (get_or heads place None) (get_or ls place [])) old_is (is.lead place)) in
+    let lengths : length (old ++ replicate count []) ≡ length heads1 = length-append old (replicate count []) ∙ omega (arith, length-replicate {A = List Watch} count [], ap length grown, length-append heads (replicate count None), length-replicate {A = Option Watch} count None) in
+    let watches : HasClauses (length next) (old ++ replicate count []) = subst (IsPermutation (slots_of (length next))) (sym (joined_more count old)) (subst (HasClauses (length next)) old_is is.watches) in
+    linked heads1 next (old ++ replicate count []) lengths lead watches

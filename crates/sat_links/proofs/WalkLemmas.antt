@@ -1,5 +1,5 @@
 -- A walk back along a ring, past variables that have values.
-use Rattle.std.proofs.Common.{◌≡◌, ◌≢◌, ℕ, zero, suc, ◌<◌, ◌≤◌, Bool, false, not, cond, eqb, List, [], ◌∷◌, ◌++◌, length, get_or, All, Contains, Option, None, Some, IsSome, refl, sym, ap, ◌∙◌, subst, arith}
+use Rattle.std.proofs.Common.{◌≡◌, ◌≢◌, ℕ, zero, suc, ◌+◌, ◌<◌, ◌≤◌, Bool, false, not, cond, eqb, List, [], ◌∷◌, ◌++◌, length, get_or, slice_get, All, Contains, Option, None, Some, IsSome, refl, sym, ap, ◌∙◌, subst, arith}
 use Rattle.std.specs.Option.{is_some}
 use Rattle.std.proofs.lemmas.Bool.{eq-eqb, ne_eqb}
 use Rattle.std.proofs.lemmas.List.{append_assoc, get_or_at, get_or_read, length-append, append-nil}
@@ -9,7 +9,7 @@ use Rattle.sat_links.specs.Rings.{ring_of, Leads, IsRing}
 use Rattle.sat_links.proofs.ApartLemmas.{Misses, Apart, Misses-parts}
 use Rattle.sat_links.proofs.PathLemmas.{last_or, differs_from_last, Leads-parts, previous_is}
 use Rattle.sat_links.proofs.Facts.{queue_length, queue_in_range}
-use Rattle.sat_links.proofs.RingLemmas.{queue_apart}
+use Rattle.sat_links.proofs.RingLemmas.{queue_apart, Placed, placed}
 
 -- how many numbers of a list stand before a number
 pub place_of : ℕ → List ℕ → ℕ
@@ -130,3 +130,44 @@ none_from_test (Some b) e = cc
 
 pub has_from_test : (value : Option Bool) (none : Bool) → is_some value ≡ not none → none ≡ false → IsSome value
 has_from_test value none is e = is ∙ ap not e
+
+-- what the links tell of the number before a variable
+got_middle : (front : List ℕ) (x : ℕ) (rest : List ℕ) → slice_get (front ++ x ∷ rest) (length front) ≡ Some x
+got_middle [] x rest = refl
+got_middle (y ∷ ys) x rest = got_middle ys x rest
+
+got_after : (front : List ℕ) (x y : ℕ) (rest : List ℕ) (k : ℕ) → k ≡ length front + 1 → slice_get (front ++ x ∷ y ∷ rest) k ≡ Some y
+got_after front x y rest zero e = absurd (omega arith)
+got_after [] x y rest (suc zero) e = refl
+got_after [] x y rest (suc (suc k)) e = absurd (omega arith)
+got_after (z ∷ zs) x y rest (suc k) e = got_after zs x y rest k (omega arith)
+
+module _ (previous next : List ℕ) (at back : ℕ) (ring : IsRing previous next) (contains : Contains (ring_of next) at) (back_is : back ≡ get_or previous at back) where
+  around : Placed (ring_of next) at
+  around = placed (ring_of next) at contains
+
+  front_is : back ≡ last_or 0 around.before
+  front_is =
+      let both = All-contains (λ var. (1 ≤ var) × (var ≤ ring.vars)) (ring_of next) at (queue_in_range ring.vars (ring_of next) ring.queue) contains in
+      let way : Leads previous next 0 (around.before ++ at ∷ around.after) 0 = subst (λ l. Leads previous next 0 l 0) around.place ring.ring in
+      get_or_read previous at back (omega (arith, both.1, ring.all_before)) back_is 0 ∙ previous_is previous next 0 around.before at (Leads-parts previous next 0 around.before at around.after 0 way).0
+
+  pub is_first : back ≡ 0 → slice_get (ring_of next) 0 ≡ Some at
+  is_first none = by around.before around.place front_is
+    where
+      by : (front : List ℕ) → ring_of next ≡ front ++ at ∷ around.after → back ≡ last_or 0 front → slice_get (ring_of next) 0 ≡ Some at
+      by [] place last = ap (λ q. slice_get q 0) place
+      by (x ∷ xs) place last =
+          let misses : Misses 0 ((x ∷ xs) ++ at ∷ around.after) = subst (Misses 0) place (queue_apart ring.vars (ring_of next) ring.queue).0 in
+          let front = Misses-parts 0 (x ∷ xs) (at ∷ around.after) misses in
+          absurd (differs_from_last 0 x xs front.0.0 front.0.1 (sym none ∙ last))
+
+  pub follows_it : back ≢ 0 → (k : ℕ) × (slice_get (ring_of next) k ≡ Some back) × (slice_get (ring_of next) (k + 1) ≡ Some at)
+  follows_it some = by around.before around.place front_is
+    where
+      by : (front : List ℕ) → ring_of next ≡ front ++ at ∷ around.after → back ≡ last_or 0 front → (k : ℕ) × (slice_get (ring_of next) k ≡ Some back) × (slice_get (ring_of next) (k + 1) ≡ Some at)
+      by [] place last = absurd (some last)
+      by (x ∷ xs) place last =
+          let split = ends x xs in
+          let whole : ring_of next ≡ split.0 ++ back ∷ at ∷ around.after = place ∙ ap (λ l. l ++ at ∷ around.after) split.1 ∙ append_assoc split.0 (last_or x xs ∷ []) (at ∷ around.after) ∙ ap (λ y. split.0 ++ y ∷ at ∷ around.after) (sym last) in
+          (length split.0, ap (λ q. slice_get q (length split.0)) whole ∙ got_middle split.0 back (at ∷ around.after), ap (λ q. slice_get q (length split.0 + 1)) whole ∙ got_after split.0 back at around.after (length split.0 + 1) refl)

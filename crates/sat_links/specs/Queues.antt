@@ -1,5 +1,5 @@
 -- Queues of variables.
-use Rattle.std.specs.Prelude.{◌≡◌, ℕ, ◌-◌, ◌==◌, Bool, not, List, [], ◌∷◌, ◌++◌, filter, slice_index_or, Option, None, IsSome, All}
+use Rattle.std.specs.Prelude.{◌≡◌, ℕ, ◌+◌, ◌-◌, ◌==◌, Bool, not, List, [], ◌∷◌, ◌++◌, filter, slice_get, slice_index_or, Option, None, Some, IsSome, All}
 use Rattle.std.specs.List.{range_with_len}
 use Rattle.std.specs.List.Sorted.{IsPermutation}
 
@@ -30,3 +30,8 @@ pub record IsLastFree (values : List (Option Bool)) (queue : List ℕ) (var : �
   pub place : queue ≡ before ++ var ∷ after
   pub free : value_of values var ≡ None
   pub valued : All (HasValue values) after
+
+-- what stands right before a variable of the queue, which stands first where nothing does
+abbrev pub Precedes : List ℕ → ℕ → Option ℕ → Type 0
+Precedes queue var None = slice_get queue 0 ≡ Some var
+Precedes queue var (Some before) = (k : ℕ) × (slice_get queue k ≡ Some before) × (slice_get queue (k + 1) ≡ Some var)

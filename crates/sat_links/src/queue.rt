@@ -1,6 +1,6 @@
 //! Variables in the order in which they are decided.
 ghost use Rattle.std.specs.Prelude.{◌≡◌, ◌↔◌, ◌<◌, length, slice_set, All, Contains, IfOk, IfSome, IsNone};
-ghost use Rattle.sat_links.specs.Queues.{variables, IsQueue, moved_to_end, HasValue, IsLastFree};
+ghost use Rattle.sat_links.specs.Queues.{variables, IsQueue, moved_to_end, HasValue, IsLastFree, Precedes};
 
 use std::alloc::{AllocError as NoMemory, Global};
 use std::marker::Model;
@@ -74,6 +74,19 @@ impl DecisionQueue {
         let last = self.ring.previous[0];
         self.ring.link(last, var);
         self.ring.link(var, 0);
+    }
+
+    /// The variable right before one of the queue's, or `None` for the first.
+    pub fn previous(&self, var: u64) -> Option<u64>
+        requires { Contains self.now var }
+        ensures { Precedes self.now var result }
+    {
+        let before = self.ring.previous[var as usize];
+        if before == 0 {
+            None
+        } else {
+            Some(before as u64)
+        }
     }
 
     /// The last variable of the queue without a value, or `None` where all have one. The value of variable v is at v - 1.

@@ -1,5 +1,5 @@
 //! Lists of watched literals.
-ghost use Rattle.std.specs.Prelude.{◌≡◌, ◌≢◌, ℕ, ◌+◌, ◌*◌, ◌<◌, ◌≤◌, ◌^◌, [], ◌∷◌, length, replicate, slice_get, slice_set, slice_index_or, Some, None, Contains, IfSome, OnErr, IfOk};
+ghost use Rattle.std.specs.Prelude.{◌≡◌, ◌≢◌, ℕ, ◌+◌, ◌-◌, ◌*◌, ◌<◌, ◌≤◌, ◌^◌, [], ◌∷◌, ◌++◌, length, replicate, slice_get, slice_set, slice_index_or, Some, None, Contains, IfSome, OnOk, OnErr, IfOk};
 ghost use Rattle.sat_links.specs.Watches.{place_of, IsListed, watches_of, joined, slot_of, HasClauses, without, OthersStay, StandsAfter, Follows};
 ghost use Rattle.sat_links.specs.Links.{next_of, Relinks, Cuts};
 ghost use Rattle.std.specs.List.Sorted.{IsPermutation};
@@ -49,6 +49,18 @@ impl WatchLists {
         Ok(WatchLists {
             links: Links { heads, next },
         })
+    }
+
+    /// Adds an empty list for each literal of the variables up to `vars` that has none. Without memory the lists stay as
+    /// they are.
+    pub fn reach(&mut self, vars: u64) -> Result<(), NoMemory>
+        requires small { vars < 2 ^ 63 }
+        requires more { length self.old ≤ 2 * vars }
+        ensures ok { OnOk result (self.new ≡ self.old ++ replicate (2 * vars - length self.old) []) }
+        ensures err { OnErr result (self.new ≡ self.old) }
+    {
+        self.links.heads.resize(2 * vars as usize, None)?;
+        Ok(())
     }
 
     /// Adds a clause that watches two literals, and gives its number, which is the count of the clauses added before.

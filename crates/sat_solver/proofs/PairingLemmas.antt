@@ -108,6 +108,31 @@ paired_new vars store trail same watching unseen = record {
   present = λ place entry h at. cc;
 }
 
+-- beside a trail without literals any store that watches is paired, as long as its number of short clauses seen stays
+no_entry : (entries : List Entry) (place : ℕ) (entry : Entry) → entries ≡ [] → slice_get entries place ≡ Some entry → ⊥
+no_entry entries place entry none at = none-some entry (ap (λ es. slice_get es place) (sym none) ∙ at)
+
+unseen : (trail : TrailState) (store : StoreState) → Paired trail store → trail.entries ≡ [] → store.seen ≡ 0
+unseen trail store paired none = by store.seen store.short paired.among (λ k place h at. let held = paired.seen k place h at in no_entry trail.entries held.made.place held.made.entry none held.made.at)
+  where
+    by : (seen : ℕ) (short : List ℕ) → seen ≤ length short → ((k place : ℕ) → k < seen → slice_get short k ≡ Some place → ⊥) → seen ≡ 0
+    by zero short among none_held = refl
+    by (suc n) [] among none_held = absurd (omega arith)
+    by (suc n) (x ∷ xs) among none_held = absurd (none_held 0 x (omega arith) refl)
+
+pub paired_added : (trail : TrailState) (store now : StoreState) → Paired trail store → trail.entries ≡ [] → now.vars ≡ store.vars → IsWatching now → now.seen ≡ store.seen → Paired trail now
+paired_added trail store now paired none vars watching seen =
+    let nothing : now.seen ≡ 0 = seen ∙ unseen trail store paired none in
+    record {
+      is_trail = paired.is_trail;
+      vars = paired.vars ∙ sym vars;
+      watching = watching;
+      guards = λ number pair found. ((λ place entry h at _. absurd (no_entry trail.entries place entry none at)), (λ place entry h at _. absurd (no_entry trail.entries place entry none at)));
+      among = omega (arith, nothing);
+      seen = λ k place h _. absurd (omega (arith, nothing, h));
+      present = λ place entry h at. absurd (no_entry trail.entries place entry none at);
+    }
+
 -- a literal more
 pub paired_push : (trail : TrailState) (store : StoreState) (entry : Entry) → Paired trail store → IsTrail (with_entry trail entry) → (trail.worked ≡ length trail.entries) ⊎ (entry.level ≡ trail.level) → Paired (with_entry trail entry) store
 paired_push trail store entry paired is free = record {

@@ -12,11 +12,12 @@ use Rattle.sat_clauses.proofs.SetLemmas.{one_literal}
 use Rattle.sat_clauses.proofs.DerivationLemmas.{Follow-push}
 use Rattle.sat_solver.specs.declared.entry.Entry.{Entry}
 use Rattle.sat_solver.specs.Stores.{greatest_var}
-use Rattle.sat_solver.specs.Entries.{value_in, values_of, IsFalseIn, IsFalseClause, AllSettled}
+use Rattle.sat_solver.specs.Keeping.{KeepsClauses}
+use Rattle.sat_solver.specs.Entries.{value_in, truth_in, values_of, IsFalseIn, IsFalseClause, AllSettled}
 use Rattle.sat_solver.proofs.AlongLemmas.{All-at}
 use Rattle.sat_solver.proofs.StoreLemmas.{clause_below}
 use Rattle.sat_solver.proofs.EntryLemmas.{values_at, length-values_of}
-use Rattle.sat_solver.proofs.ClauseLemmas.{All-has, other_value}
+use Rattle.sat_solver.proofs.ClauseLemmas.{All-has, other_value, truth_true}
 use Rattle.sat_solver.proofs.SearchLemmas.{follow_keeps}
 
 some_step : (steps : List Resolution) (step : Resolution) → steps ++ step ∷ [] ≢ []
@@ -73,3 +74,20 @@ all_held values (c ∷ cs) each = and_from (holds_clause values c) (holds values
 pub all_hold : (clauses all : List (List Lit)) (steps : List Resolution) (entries : List Entry) → All IsClause clauses → Follow clauses steps all → AllSettled entries all → All IsSome (values_of (greatest_var clauses) entries) → holds (map (λ value. unwrap_or value false) (values_of (greatest_var clauses) entries)) clauses ≡ true
 all_hold clauses all steps entries are follow settled valued =
     all_held (map (λ value. unwrap_or value false) (values_of (greatest_var clauses) entries)) clauses (λ k clause e. held (greatest_var clauses) entries valued clause (All-at IsClause clauses k clause are e).literals (clause_below clauses k clause e) (settled k clause (follow_keeps clauses all steps follow k clause e)).not_false)
+
+-- where no clause is false and all variables have values, all clauses are held
+pub store_holds : (vars : ℕ) (entries : List Entry) → All IsSome (values_of vars entries) → (clauses : List (List Lit)) → KeepsClauses vars clauses → AllSettled entries clauses → holds (map (λ value. unwrap_or value false) (values_of vars entries)) clauses ≡ true
+store_holds vars entries valued clauses keeps settled =
+    all_held (map (λ value. unwrap_or value false) (values_of vars entries)) clauses (λ k clause e. held vars entries valued clause (All-at IsClause clauses k clause keeps.each e).literals (All-at (λ c. All (λ lit. lit.var ≤ vars) c) clauses k clause keeps.within e) (settled k clause e).not_false)
+
+-- what is true on the trail is true in the assignment
+pub reads_true : (vars : ℕ) (entries : List Entry) → All IsSome (values_of vars entries) → (lit : Lit) → 1 ≤ lit.var → lit.var ≤ vars → truth_in entries lit ≡ Some true → is_true (map (λ value. unwrap_or value false) (values_of vars entries)) lit ≡ true
+reads_true vars entries valued lit low high truth =
+    let within : lit.var - 1 < length (values_of vars entries) = omega (arith, length-values_of vars entries) in
+    let read : get_or (map (λ value. unwrap_or value false) (values_of vars entries)) (lit.var - 1) false ≡ unwrap_or (get_or (values_of vars entries) (lit.var - 1) None) false = get_or-map (λ value. unwrap_or value false) (values_of vars entries) (lit.var - 1) None false within in
+    let value : get_or (values_of vars entries) (lit.var - 1) None ≡ Some lit.positive = values_at vars entries lit.var low high ∙ truth_true entries lit truth in
+    ap (λ b. beq b lit.positive) (read ∙ ap (λ o. unwrap_or o false) value) ∙ same lit.positive
+  where
+    same : (b : Bool) → beq b b ≡ true
+    same true = refl
+    same false = refl

@@ -1,23 +1,24 @@
 -- Stores that watch: another literal watched, and a clause more.
-use Rattle.std.proofs.Common.{◌≡◌, ◌≢◌, ℕ, zero, suc, ◌+◌, ◌*◌, ◌<◌, ◌≤◌, Bool, true, false, not, cond, eqb, List, [], ◌∷◌, ◌++◌, Some, IsTrue, replicate, get_or, set, length, slice_get, refl, sym, ap, subst, ◌∙◌, inl, inr, ◌⊎◌, arith}
+use Rattle.std.proofs.Common.{◌≡◌, ◌≢◌, ℕ, zero, suc, ◌+◌, ◌-◌, ◌*◌, ◌<◌, ◌≤◌, Bool, true, false, not, cond, eqb, List, [], ◌∷◌, ◌++◌, Some, IsTrue, replicate, get_or, set, length, slice_get, All, refl, sym, ap, subst, ◌∙◌, inl, inr, ◌⊎◌, arith}
 use Rattle.std.specs.List.{IsDistinct}
 use Rattle.std.specs.List.Sorted.{IsPermutation}
 use Rattle.std.proofs.lemmas.Bool.{cases_eq, cases_lt, false≢true}
-use Rattle.std.proofs.lemmas.List.{length-set, length_push, length-replicate}
+use Rattle.std.proofs.lemmas.List.{length-set, length_push, length-append, length-replicate, get_or_past}
 use Rattle.std.proofs.lemmas.List.Sorted.{IsPermutation-trans, IsPermutation-refl}
 use Rattle.std.proofs.lemmas.Map.Keys.{IsDistinct-head}
-use Rattle.std.proofs.lemmas.Option.{same_Some}
+use Rattle.std.proofs.lemmas.Option.{same_Some, none-some}
 use Rattle.sat_clauses.specs.declared.literal.Lit.{Lit}
-use Rattle.sat_clauses.specs.Literals.{same_literal}
-use Rattle.sat_clauses.specs.ClauseLists.{has, without as clauses_without}
+use Rattle.sat_clauses.specs.Literals.{IsLiteral, same_literal}
+use Rattle.sat_clauses.specs.ClauseLists.{has, without as clauses_without, IsClause}
 use Rattle.sat_clauses.proofs.SetLemmas.{one_literal, same_itself}
 use Rattle.sat_links.specs.declared.watches.Watch.{Watch}
 use Rattle.sat_links.specs.Watches.{place_of, IsListed, watches_of, joined, slot_of, slots_of, HasClauses, without, OthersStay}
-use Rattle.sat_links.proofs.Facts.{stays_without, was_with}
+use Rattle.sat_links.proofs.Facts.{stays_without, was_with, is_listed, more_lists, joined_more}
 use Rattle.sat_solver.specs.declared.pair.Pair.{Pair}
+use Rattle.sat_solver.specs.Keeping.{KeepsClauses}
 use Rattle.sat_solver.specs.Watching.{watched, guard, moved, IsPairOf, Watches, StandsIn, IsShort, IsSeenTo, Watching}
-use Rattle.sat_solver.proofs.ClauseLemmas.{in_without, has-at}
-use Rattle.sat_solver.proofs.AlongLemmas.{at_front, at_push, at_end}
+use Rattle.sat_solver.proofs.ClauseLemmas.{in_without, has-at, All-has}
+use Rattle.sat_solver.proofs.AlongLemmas.{All-at, at_front, at_push, at_end}
 
 pub lit_cases : (a b : Lit) → (a ≡ b) ⊎ (a ≢ b)
 lit_cases a b = by (same_literal a b) refl
@@ -422,3 +423,39 @@ alone_short (a ∷ b ∷ rest) lit distinct none = by (same_literal lit a) refl 
     by false e t f = absurd (left a (has-at (a ∷ b ∷ rest) 0 a (omega arith)) e)
     by true e false f = absurd (left b (has-at (a ∷ b ∷ rest) 1 a (omega arith)) f)
     by true e true f = absurd (distinct_two (a ∷ b ∷ rest) a (omega arith) distinct (sym (one_literal lit a e) ∙ one_literal lit b f))
+
+-- room for more variables
+module _ (clauses : List (List Lit)) (vars more : ℕ) (pairs : List Pair) (lists : List (List Watch)) (short : List ℕ) (is : Watching clauses vars pairs lists short) (keeps : KeepsClauses vars clauses) (up : vars ≤ more) where
+  abbrev grown : List (List Watch)
+  grown = lists ++ replicate (2 * more - length lists) []
+
+  watched_within : (lit : Lit) (watch : Watch) → Watches pairs lit watch → (1 ≤ lit.var) × (lit.var ≤ vars)
+  watched_within lit watch watches =
+      let pair = is.paired watch.clause watches.pair watches.found in
+      let literals = (All-at IsClause clauses watches.pair.place pair.clause keeps.each pair.found).literals in
+      let low : IsTrue (has pair.clause lit) = subst (λ (l : Lit). IsTrue (has pair.clause l)) watches.is (by (eqb watch.slot 0) watches.pair pair) in
+      ((All-has IsLiteral pair.clause lit literals low).0, All-has (λ l. l.var ≤ vars) pair.clause lit (All-at (λ c. All (λ l. l.var ≤ vars) c) clauses watches.pair.place pair.clause keeps.within pair.found) low)
+    where
+      by : (b : Bool) (p : Pair) → (of : IsPairOf clauses p) → IsTrue (has of.clause (cond b p.first p.second))
+      by true p of = of.first
+      by false p of = of.second
+
+  pub reached : Watching clauses more pairs grown short
+  reached = record {
+    literals = length-append lists (replicate (2 * more - length lists) []) ∙ omega (arith, length-replicate {A = List Watch} (2 * more - length lists) [], is.literals);
+    numbers = subst (IsPermutation (slots_of (length pairs))) (sym (joined_more (2 * more - length lists) lists)) is.numbers;
+    paired = is.paired;
+    watches = λ lit watch listed watches.
+        let within = watched_within lit watch watches in
+        subst (λ list. StandsIn list watch) (sym (more_lists (2 * more - length lists) lists (place_of lit))) (is.watches lit watch (is_listed vars lists lit is.literals within.0 within.1) watches);
+    listed = λ lit watch k listed at. old lit watch k listed.0 (ap (λ list. slice_get list k) (sym (more_lists (2 * more - length lists) lists (place_of lit))) ∙ at);
+    shorts = is.shorts;
+    all = is.all;
+  }
+    where
+      old : (lit : Lit) (watch : Watch) (k : ℕ) → 1 ≤ lit.var → slice_get (watches_of lists lit) k ≡ Some watch → Watches pairs lit watch
+      old lit watch k low at = by (cases_lt (place_of lit) (length lists))
+        where
+          by : (place_of lit < length lists) ⊎ (length lists ≤ place_of lit) → Watches pairs lit watch
+          by (inl below) = is.listed lit watch k (low, below) at
+          by (inr past) = absurd (none-some watch (sym (ap (λ list. slice_get list k) (get_or_past lists (place_of lit) [] past)) ∙ at))

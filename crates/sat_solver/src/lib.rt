@@ -5,6 +5,7 @@ mod analysis;
 mod entry;
 mod laws;
 mod lesson;
+mod order;
 mod pair;
 mod propagate;
 mod question;
@@ -16,6 +17,7 @@ mod tests;
 mod trail;
 
 pub use laws::weight_is_lexicographic;
-pub use solver::{Answer, solve};
-pub use store::Store;
+pub use search::Search;
+pub use solver::{Answer, assignment, solve};
+pub use store::{Store, greatest};
 pub use trail::Trail;

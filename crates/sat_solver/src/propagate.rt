@@ -90,7 +90,7 @@ impl Trail {
     }
 
     /// Whether a literal is true, where its variable has a value.
-    pub(crate) fn truth(&self, lit: Lit) -> Option<bool>
+    pub fn truth(&self, lit: Lit) -> Option<bool>
         requires { (1 ≤ lit.var) × (lit.var ≤ self.now.vars) }
         ensures { result ≡ truth_in self.now.entries lit }
     {

@@ -1,20 +1,21 @@
 //! The state of a search.
-ghost use Rattle.std.specs.Prelude.{◌≡◌, ◌++◌, ◌∷◌, [], ◌≤◌, ◌<◌, length, All, OnOk, OnErr, IfOk, MatchOption, IfSome, IfNone, IsSome, IsTrue, false};
-ghost use Rattle.sat_clauses.specs.ClauseLists.{IsClause, has, without};
-ghost use Rattle.sat_links.specs.Queues.{IsQueue};
+ghost use Rattle.std.specs.Prelude.{◌≡◌, ◌+◌, ◌++◌, ◌∷◌, [], ◌≤◌, ◌<◌, ◌^◌, length, take, All, OnOk, OnErr, IfOk, MatchOption, IfSome, IfNone, None, IsSome, IsTrue, false};
+ghost use Rattle.sat_clauses.specs.ClauseLists.{IsClause, has, without, holds};
 ghost use Rattle.sat_solver.specs.Stores.{greatest_var};
-ghost use Rattle.sat_solver.specs.Entries.{IsConflict, IsFalseClause, AllSettled, values_of};
+ghost use Rattle.sat_solver.specs.Entries.{IsConflict, IsFreeIn, IsFalseClause, AllSettled, Extends, up_to, values_of};
+ghost use Rattle.sat_solver.specs.Trails.{empty_trail, with_entry};
 ghost use Rattle.sat_solver.specs.Lessons.{Asserts, IsSecond};
 ghost use Rattle.sat_solver.specs.Watching.{IsWatching};
 ghost use Rattle.sat_solver.specs.Pairing.{Learnt};
 
 use crate::analysis::analyze;
 use crate::lesson::{Assertion, Lesson, Making};
+use crate::order::Order;
 use crate::question::Question;
+use crate::solver::assignment;
 use crate::store::Store;
 use crate::trail::Trail;
-use sat_clauses::{Clauses, Derivation, Lit, Step};
-use sat_links::DecisionQueue;
+use sat_clauses::{Assignment, Clauses, Derivation, Lit, Step};
 use std::alloc::{AllocError as NoMemory, Global};
 
 /// What a turn of a search comes to: it goes on, all variables have values and no clause is false, or the empty clause
@@ -29,20 +30,20 @@ pub(crate) enum Turn {
 /// The clauses, the trail, the order of decisions, the steps that made the learnt clauses, the clause in the
 /// making, which is kept from one conflict to the next, and the last given clause as the question.
 #[derive(Drop)]
-pub(crate) struct Search {
-    pub(crate) store: Store,
-    pub(crate) trail: Trail,
-    pub(crate) queue: DecisionQueue,
+pub struct Search {
+    pub store: Store,
+    pub trail: Trail,
+    pub(crate) order: Order,
     pub(crate) steps: Vec<Step>,
     making: Making,
     question: Question,
 }
 
 impl Search {
-    ghost use Rattle.sat_solver.specs.Searches.{IsSearch, LearnsOrEnds, TurnIs, steps_in, weight_of};
+    ghost use Rattle.sat_solver.specs.Searches.{IsSearch, Opens, Keeps, Stays, GivesTruths, LearnsOrEnds, TurnIs, steps_in, weight_of};
 
     /// The search among clauses, which begins with no values.
-    pub(crate) fn new(alloc: Global, clauses: &Clauses) -> Result<Search, NoMemory>
+    pub fn new(alloc: Global, clauses: &Clauses) -> Result<Search, NoMemory>
         ensures search { IfOk result IsSearch }
         ensures clauses { IfOk result (λ _. All IsClause clauses.now) }
         ensures store { IfOk result (λ search. search.store.clauses ≡ clauses.now) }
@@ -54,7 +55,7 @@ impl Search {
         let last = store.count().saturating_sub(1);
         Ok(Search {
             trail: Trail::new(alloc, vars)?,
-            queue: DecisionQueue::new(alloc, vars)?,
+            order: Order::new(alloc, vars)?,
             store,
             steps: Vec::new(alloc),
             making: Making::new(alloc),
@@ -85,10 +86,12 @@ impl Search {
         }
     }
 
-    /// Propagates, and gives the place of a false clause.
-    fn propagate(&mut self) -> Option<u64>
+    /// Puts literals at the end of the present level as long as a clause forces one. The answer is the place of a clause
+    /// that is false, or `None` where no clause is false or unit.
+    pub fn propagate(&mut self) -> Option<u64>
         requires { IsSearch self.old }
         ensures search { IsSearch self.new }
+        ensures extends { Extends self.old.store.clauses self.old.trail.level self.old.trail.entries self.new.trail.entries }
         ensures settled { IfNone result (AllSettled self.new.trail.entries self.old.store.clauses) }
         ensures worked { IfNone result (self.new.trail.worked ≡ length self.new.trail.entries) }
         ensures conflict { IfSome result (IsConflict self.new.trail.entries self.old.store.clauses) }
@@ -100,11 +103,27 @@ impl Search {
         self.trail.propagate(&mut self.store)
     }
 
-    /// Decides a variable, of the question while it is open. The answer is `false` where all have values.
-    fn decide(&mut self) -> bool
+    /// Opens a level with a free literal, which becomes true.
+    pub fn decide_literal(&mut self, lit: Lit)
+        requires search { IsSearch self.old }
+        requires worked { self.old.trail.worked ≡ length self.old.trail.entries }
+        requires within { (1 ≤ lit.var) × (lit.var ≤ self.old.trail.vars) }
+        requires free { IsFreeIn self.old.trail.entries lit }
+        ensures search { IsSearch self.new }
+        ensures opened { self.new.trail ≡ with_entry self.old.trail (record { lit = lit; level = self.old.trail.level + 1; reason = None }) }
+        ensures farther { weight_of self.old < weight_of self.new }
+        ensures clauses { self.new.store.clauses ≡ self.old.store.clauses }
+        ensures steps { self.new.steps ≡ self.old.steps }
+    {
+        self.trail.decide_literal(lit);
+    }
+
+    /// Opens a level with a literal that the search chooses. The answer is `false` where all variables have values.
+    pub fn decide(&mut self) -> bool
         requires search { IsSearch self.old }
         requires worked { self.old.trail.worked ≡ length self.old.trail.entries }
         ensures search { IsSearch self.new }
+        ensures opened { IsTrue result → Opens self.old self.new }
         ensures farther { IsTrue result → weight_of self.old < weight_of self.new }
         ensures valued { result ≡ false → All IsSome (values_of self.old.trail.vars self.old.trail.entries) }
         ensures same { result ≡ false → self.new.trail ≡ self.old.trail }
@@ -112,11 +131,34 @@ impl Search {
         ensures clauses { self.new.store.clauses ≡ self.old.store.clauses }
         ensures steps { self.new.steps ≡ self.old.steps }
     {
-        let Some(lit) = self.question.open(&self.trail, &self.store) else {
+        let Some(lit) = self.chosen() else {
             return self.decide_last();
         };
-        self.trail.decide_literal(lit);
+        self.decide_literal(lit);
         true
+    }
+
+    /// A free literal: one of the question while that is open, else the negation of a variable by a walk back from the
+    /// kept place in the order. Where it finds none there may be free variables nevertheless.
+    fn chosen(&mut self) -> Option<Lit>
+        requires { IsSearch self.old }
+        ensures search { IsSearch self.new }
+        ensures within { IfSome result (λ lit. (1 ≤ lit.var) × (lit.var ≤ self.old.trail.vars)) }
+        ensures free { IfSome result (IsFreeIn self.old.trail.entries) }
+        ensures trail { self.new.trail ≡ self.old.trail }
+        ensures store { self.new.store ≡ self.old.store }
+        ensures steps { self.new.steps ≡ self.old.steps }
+    {
+        match self.question.open(&self.trail, &self.store) {
+            Some(lit) => Some(lit),
+            None => match self.order.next_free(&self.trail) {
+                Some(var) => Some(Lit {
+                    var,
+                    positive: false,
+                }),
+                None => None,
+            },
+        }
     }
 
     /// Decides the last free variable of the queue. The answer is `false` where all have values.
@@ -124,6 +166,7 @@ impl Search {
         requires search { IsSearch self.old }
         requires worked { self.old.trail.worked ≡ length self.old.trail.entries }
         ensures search { IsSearch self.new }
+        ensures opened { IsTrue result → Opens self.old self.new }
         ensures farther { IsTrue result → weight_of self.old < weight_of self.new }
         ensures valued { result ≡ false → All IsSome (values_of self.old.trail.vars self.old.trail.entries) }
         ensures same { result ≡ false → self.new ≡ self.old }
@@ -131,14 +174,93 @@ impl Search {
         ensures clauses { self.new.store.clauses ≡ self.old.store.clauses }
         ensures steps { self.new.steps ≡ self.old.steps }
     {
-        self.trail.decide(&self.queue).is_some()
+        self.trail.decide(&self.order.queue).is_some()
     }
 
-    /// Learns from the false clause at a place. The answer is `false` where the empty clause was derived.
-    fn learn(&mut self, alloc: Global, conflict: u64) -> Result<bool, NoMemory>
+    /// Drops the values of all levels above a level, which is then the present one.
+    pub fn jump_back(&mut self, level: u64)
+        requires search { IsSearch self.old }
+        requires level { level ≤ self.old.trail.level }
+        ensures search { IsSearch self.new }
+        ensures entries { self.new.trail.entries ≡ up_to level self.old.trail.entries }
+        ensures prefix { self.new.trail.entries ≡ take (length self.new.trail.entries) self.old.trail.entries }
+        ensures level { self.new.trail.level ≡ level }
+        ensures vars { self.new.trail.vars ≡ self.old.trail.vars }
+        ensures store { self.new.store ≡ self.old.store }
+        ensures steps { self.new.steps ≡ self.old.steps }
+    {
+        self.order.release(self.trail.entries(), level);
+        self.trail.jump_back(level);
+    }
+
+    /// Takes all values back, and makes room for the variables up to a number. Without memory the search stays as it is.
+    pub fn reach(&mut self, alloc: Global, vars: u64) -> Result<(), NoMemory>
+        requires search { IsSearch self.old }
+        requires more { self.old.trail.vars ≤ vars }
+        ensures search { OnOk result (IsSearch self.new) }
+        ensures trail { OnOk result (self.new.trail ≡ empty_trail vars) }
+        ensures clauses { OnOk result (self.new.store.clauses ≡ self.old.store.clauses) }
+        ensures steps { OnOk result (self.new.steps ≡ self.old.steps) }
+        ensures err { OnErr result (self.new ≡ self.old) }
+    {
+        let trail = Trail::new(alloc, vars)?;
+        let order = Order::new(alloc, vars)?;
+        self.store.reach(vars)?;
+        self.store.see(0);
+        self.trail = trail;
+        self.order = order;
+        Ok(())
+    }
+
+    /// Puts a clause last while no variable has a value. It becomes the question. Without memory the search stays as it is.
+    pub fn add(&mut self, clause: Vec<Lit>) -> Result<(), NoMemory>
+        requires search { IsSearch self.old }
+        requires empty { self.old.trail.entries ≡ [] }
+        requires clause { IsClause clause.items }
+        requires within { All (λ lit. lit.var ≤ self.old.trail.vars) clause.items }
+        ensures search { OnOk result (IsSearch self.new) }
+        ensures clauses { OnOk result (self.new.store.clauses ≡ self.old.store.clauses ++ clause.items ∷ []) }
+        ensures trail { OnOk result (self.new.trail ≡ self.old.trail) }
+        ensures steps { OnOk result (self.new.steps ≡ self.old.steps) }
+        ensures err { OnErr result (self.new ≡ self.old) }
+    {
+        let place = self.store.count();
+        self.store.add(clause)?;
+        self.question = Question {
+            clause: place,
+            at: 0,
+        };
+        Ok(())
+    }
+
+    /// The values as an assignment, where all variables have values and no clause is false.
+    pub fn assignment(&self, alloc: Global) -> Result<Assignment, NoMemory>
+        requires search { IsSearch self.now }
+        requires valued { All IsSome (values_of self.now.trail.vars self.now.trail.entries) }
+        requires settled { AllSettled self.now.trail.entries self.now.store.clauses }
+        ensures holds { IfOk result (λ assignment. IsTrue (holds assignment.values.items self.now.store.clauses)) }
+        ensures truths { IfOk result (λ assignment. GivesTruths assignment self.now.trail) }
+    {
+        let _clauses = self.store.count();
+        let found = assignment(alloc, self.trail.values())?;
+        Ok(found)
+    }
+
+    /// Forgets the steps that were made so far.
+    pub fn forget_steps(&mut self)
+        ensures steps { steps_in self.new ≡ [] }
+        ensures rest { self.new ≡ record self.old { steps = self.new.steps } }
+    {
+        self.steps.clear();
+    }
+
+    /// Learns from the false clause at a place. The answer is `false` where the empty clause was derived. Without memory the
+    /// clauses stay.
+    pub fn learn(&mut self, alloc: Global, conflict: u64) -> Result<bool, NoMemory>
         requires search { IsSearch self.old }
         requires conflict { IsConflict self.old.trail.entries self.old.store.clauses conflict }
-        ensures { IfOk result (LearnsOrEnds self.old self.new) }
+        ensures learns { IfOk result (LearnsOrEnds self.old self.new) }
+        ensures err { OnErr result (Stays self.old self.new) }
     {
         let place = self.store.count();
         let Lesson {
@@ -153,7 +275,7 @@ impl Search {
         let Some(assertion) = asserted else {
             return Ok(false);
         };
-        postpone(&mut self.queue, clause.as_slice());
+        self.order.postpone(clause.as_slice());
         self.assert(clause, assertion, place)?;
         Ok(true)
     }
@@ -176,11 +298,13 @@ impl Search {
         requires second { IsSecond self.old.trail.entries (without clause.items assertion.lit) assertion.level assertion.second }
         ensures search { OnOk result (IsSearch self.new) }
         ensures store { OnOk result (self.new.store.clauses ≡ self.old.store.clauses ++ clause.items ∷ []) }
+        ensures kept { OnOk result (Keeps self.old self.new) }
         ensures farther { OnOk result (weight_of self.old < weight_of self.new) }
         ensures vars { OnOk result (self.new.trail.vars ≡ self.old.trail.vars) }
         ensures steps { OnOk result (self.new.steps ≡ self.old.steps) }
+        ensures err { OnErr result (Stays self.old self.new) }
     {
-        self.trail.jump_back(assertion.level);
+        self.jump_back(assertion.level);
         keep(&mut self.store, clause, assertion)?;
         self.trail.force(assertion.lit, place);
         Ok(())
@@ -201,16 +325,5 @@ fn keep(store: &mut Store, clause: Vec<Lit>, assertion: Assertion) -> Result<(),
     match assertion.second {
         Some(second) => store.push(clause, assertion.lit, second),
         None => store.push_short(clause),
-    }
-}
-
-/// Moves the variables of a clause to the end of a queue, so that they are decided next.
-fn postpone(queue: &mut DecisionQueue, clause: &[Lit])
-    requires queue { IsQueue (length queue.old) queue.old }
-    requires within { All (λ lit. (1 ≤ lit.var) × (lit.var ≤ length queue.old)) clause.now }
-    ensures { IsQueue (length queue.old) queue.new }
-{
-    for lit in clause {
-        queue.move_to_end(lit.var);
     }
 }

@@ -28,7 +28,7 @@ pub fn solve(alloc: Global, clauses: &Clauses) -> Result<Answer, NoMemory>
 }
 
 /// The values as an assignment, in which a variable without a value is false.
-fn assignment(alloc: Global, values: &[Option<bool>]) -> Result<Assignment, NoMemory>
+pub fn assignment(alloc: Global, values: &[Option<bool>]) -> Result<Assignment, NoMemory>
     ensures { IfOk result (λ assignment. assignment.values.items ≡ map (λ value. unwrap_or value false) values.now) }
 {
     let values = values

@@ -3,6 +3,7 @@ ghost use Rattle.std.specs.Prelude.{◌≡◌, ◌≢◌, ◌++◌, ◌∷◌, [
 ghost use Rattle.sat_clauses.specs.declared.literal.Lit.{Lit};
 ghost use Rattle.sat_clauses.specs.ClauseLists.{has, IsClause};
 ghost use Rattle.sat_links.specs.Watches.{IsListed, watches_of, joined, StandsAfter, Follows, without as without_watch};
+ghost use Rattle.sat_solver.specs.Keeping.{KeepsClauses};
 ghost use Rattle.sat_solver.specs.Stores.{greatest_in, greatest_var};
 ghost use Rattle.sat_solver.specs.Watching.{guard, moved, Watches, IsWatching};
 
@@ -70,8 +71,22 @@ impl Store {
         })
     }
 
-    /// Puts a clause last, and lets it watch its first two literals.
-    fn add(&mut self, clause: Vec<Lit>) -> Result<(), NoMemory>
+    /// Makes room for the variables up to a number. Without memory the store stays as it is.
+    pub(crate) fn reach(&mut self, vars: u64) -> Result<(), NoMemory>
+        requires small { vars < 2 ^ 63 }
+        requires more { self.old.vars ≤ vars }
+        requires watching { IsWatching self.old }
+        ensures ok { OnOk result (self.new ≡ record self.old { vars = vars; lists = self.new.lists }) }
+        ensures watching { OnOk result (IsWatching self.new) }
+        ensures err { OnErr result (self.new ≡ self.old) }
+    {
+        self.lists.reach(vars)?;
+        self.vars = vars;
+        Ok(())
+    }
+
+    /// Puts a clause last, and lets it watch its first two literals. Without memory the store stays as it is.
+    pub(crate) fn add(&mut self, clause: Vec<Lit>) -> Result<(), NoMemory>
         requires clause { IsClause clause.items }
         requires within { All (λ lit. lit.var ≤ self.old.vars) clause.items }
         requires watching { IsWatching self.old }
@@ -79,6 +94,7 @@ impl Store {
         ensures vars { OnOk result (self.new.vars ≡ self.old.vars) }
         ensures watching { OnOk result (IsWatching self.new) }
         ensures seen { OnOk result (self.new.seen ≡ self.old.seen) }
+        ensures err { OnErr result (self.new ≡ self.old) }
     {
         if clause.len() < 2 {
             return self.push_short(clause);
@@ -133,12 +149,13 @@ impl Store {
     pub(crate) fn count(&self) -> u64
         ensures count { result ≡ length self.now.clauses }
         ensures few { result < 2 ^ 62 }
+        ensures kept { KeepsClauses self.now.vars self.now.clauses }
     {
         self.clauses.as_slice().len() as u64
     }
 
     /// The number of variables.
-    pub(crate) fn vars(&self) -> u64
+    pub fn vars(&self) -> u64
         ensures { result ≡ self.now.vars }
     {
         self.vars
@@ -238,7 +255,7 @@ fn greatest_of(clauses: &Clauses) -> u64
 }
 
 /// The greatest variable that stands in literals, or 0.
-fn greatest(lits: &[Lit]) -> u64
+pub fn greatest(lits: &[Lit]) -> u64
     ensures { result ≡ greatest_in lits.now }
 {
     let mut greatest = 0;

@@ -1,5 +1,5 @@
 //! The trail: the literals that became true, in their order.
-ghost use Rattle.std.specs.Prelude.{◌≡◌, ◌+◌, ◌++◌, ◌∷◌, [], ◌≤◌, ◌<◌, length, take, min, false, All, IfOk, None, Some, IfSome, IfNone, IsSome, IsNone, ◌↔◌};
+ghost use Rattle.std.specs.Prelude.{◌≡◌, ◌+◌, ◌++◌, ◌∷◌, [], ◌≤◌, ◌<◌, ◌^◌, length, take, min, false, All, IfOk, None, Some, IfSome, IfNone, IsSome, IsNone, ◌↔◌};
 ghost use Rattle.sat_links.specs.Queues.{IsQueue, IsLastFree};
 ghost use Rattle.sat_solver.specs.Entries.{entry_of, value_in, values_of, IsFreeIn, decisions, up_to};
 ghost use Rattle.sat_solver.specs.Stores.{StoreState};
@@ -40,6 +40,7 @@ impl Trail {
     pub fn new(alloc: Global, vars: u64) -> Result<Trail, NoMemory>
         ensures empty { IfOk result (λ trail. trail ≡ empty_trail vars) }
         ensures trail { IfOk result IsTrail }
+        ensures small { IfOk result (λ _. vars < 2 ^ 63) }
         ensures paired { IfOk result (λ trail. (store : StoreState) → store.vars ≡ vars → IsWatching store → store.seen ≡ 0 → Paired trail store) }
     {
         let count = vars as usize;

@@ -7,6 +7,7 @@ use Rattle.sat_solver.specs.declared.entry.Entry.{Entry}
 use Rattle.sat_solver.specs.Entries.{AllReasoned}
 use Rattle.sat_solver.specs.Trails.{TrailState, IsTrail, with_entry}
 use Rattle.sat_solver.specs.Measures.{weight}
+use Rattle.sat_solver.specs.Searches.{Opens}
 use Rattle.sat_solver.proofs.MeasureLemmas.{weight_push}
 use Rattle.sat_solver.proofs.SearchLemmas.{reasons_push}
 use Rattle.sat_solver.proofs.search.Search.decide_last.Goals as goal
@@ -28,7 +29,7 @@ returns-clause-search c =
       trail = c.decide.ensures.trail;
       reasons = opened_or_same (λ t. AllReasoned old.store.clauses t.entries) old.trail now c.decide.result c.decide.ensures.opened c.decide.ensures.unchanged c.requires.search.reasons (λ lit. reasons_push old.store.clauses old.trail.entries (decision old.trail lit) c.requires.search.reasons (λ some. absurd (false≢true some)));
       paired = c.decide.ensures.paired old.store c.requires.search.paired c.requires.worked;
-      queue = subst (λ n. IsQueue n old.queue) (sym vars) c.requires.search.queue;
+      queue = subst (λ n. IsQueue n old.order.queue) (sym vars) c.requires.search.queue;
     }
 
 pub returns-clause-farther : goal.returns-clause-farther
@@ -42,3 +43,10 @@ returns-clause-farther c = λ is. by c.decide.result (sym c.is_some.ensures ∙ 
         let trail : IsTrail (with_entry old entry) = subst IsTrail opened c.decide.ensures.trail in
         let room : length old.entries < old.vars = omega (arith, trail.small, length_push old.entries entry) in
         subst (λ (t : TrailState). weight old.vars old.entries < weight t.vars t.entries) (sym opened) (weight_push old.vars old.entries entry room)
+
+pub returns-clause-opened : goal.returns-clause-opened
+returns-clause-opened c = λ is. by c.decide.result (sym c.is_some.ensures ∙ is) c.decide.ensures.opened
+  where
+    by : (o : Option Lit) → is_some o ≡ true → IfSome o (λ lit. c.decide.new.self ≡ with_entry c.args.self.now.trail (decision c.args.self.now.trail lit)) → Opens c.args.self.now (record c.args.self.now { trail = c.decide.new.self })
+    by None e opened = absurd (false≢true e)
+    by (Some lit) e opened = record { lit = lit; trail = opened }

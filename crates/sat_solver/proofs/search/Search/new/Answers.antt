@@ -14,5 +14,5 @@ returns-clause-search c =
       trail = c.in_ok-new.ensures.trail;
       reasons = subst (λ (t : TrailState). AllReasoned store.clauses t.entries) (sym c.in_ok-new.ensures.empty) (λ k x at some. cc);
       paired = c.in_ok-new.ensures.paired store (sym c.vars-vars.ensures) c.in_ok-store.ensures.watching c.in_ok-store.ensures.unseen;
-      queue = subst (λ n. IsQueue n c.in_ok-new-2.field-0) (sym vars) (subst (IsQueue _) (sym c.in_ok-new-2.ensures) (IsPermutation-refl _));
+      queue = subst (λ n. IsQueue n c.in_ok-new-2.field-0.queue) (sym vars) (subst (IsQueue _) (sym c.in_ok-new-2.ensures) (IsPermutation-refl _));
     }

@@ -15,7 +15,7 @@ returns-clause-search c =
       trail = done.trail;
       reasons = subst (λ cs. AllReasoned cs now.entries) (sym done.clauses) (reasons_extend old.store.clauses old.trail.level old.trail.entries now.entries c.requires.reasons done.extends);
       paired = done.paired;
-      queue = subst (λ n. IsQueue n old.queue) (sym done.vars) c.requires.queue;
+      queue = subst (λ n. IsQueue n old.order.queue) (sym done.vars) c.requires.queue;
     }
 
 pub returns-clause-farther : goal.returns-clause-farther

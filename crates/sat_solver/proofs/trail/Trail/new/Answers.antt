@@ -19,3 +19,6 @@ returns-clause-paired c = λ store vars watching unseen.
     let at : IsTrail (empty_trail (length c.in_ok-vec.field-0.items)) = subst (λ es. IsTrail (record { vars = length c.in_ok-vec.field-0.items; entries = es; level = 0; worked = 0 })) items keeps.trail in
     let begins : Paired (empty_trail c.args.vars) store = paired_new c.args.vars store (subst (λ n. IsTrail (empty_trail n)) count at) vars watching unseen in
     subst (λ es. Paired (record { vars = length c.in_ok-vec.field-0.items; entries = es; level = 0; worked = 0 }) store) (sym items) (subst (λ n. Paired (empty_trail n) store) (sym count) begins)
+
+pub returns-clause-small : goal.returns-clause-small
+returns-clause-small c = omega (arith, c.in_ok-vec.ensures.len, c.in_ok-vec.field-0.small)
