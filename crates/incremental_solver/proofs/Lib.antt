@@ -1,0 +1,2 @@
+mod AssumptionLemmas
+mod GrowthLemmas
