@@ -2,7 +2,7 @@
 ghost use Rattle.std.specs.Prelude.{◌≡◌, fold};
 ghost use Rattle.dj_faults.specs.LeastPlace.{first_place};
 
-// The lesser of two places, and the only one.
+/// The lesser of two places, or the only one that is there: `first_place`.
 pub fn earlier(one: Option<u32>, other: Option<u32>) -> Option<u32>
     ensures { result ≡ first_place one other }
 {

@@ -13,4 +13,6 @@ mod spots;
 mod trees;
 
 pub use fault::{LineFault, first_fault};
+pub use least::earlier;
+pub use numbers::repeated;
 pub use parts::chain_of;

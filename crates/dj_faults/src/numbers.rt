@@ -18,7 +18,8 @@ fn meet(met: &mut IndexSet<u32>, spot: Spot) -> Result<Option<u32>, NoMemory>
     Ok(if is_new { None } else { Some(spot.at) })
 }
 
-// The least place of a name that stands before.
+/// The least place of a name whose number stands before it in the list, or None where each number stands once:
+/// `IsLeastPlace` of `Again`.
 pub fn repeated(alloc: Global, spots: &[Spot]) -> Result<Option<u32>, NoMemory>
     ensures { IfOk result (IsLeastPlace (Again spots.now (length spots.now))) }
 {

@@ -70,7 +70,7 @@ once_if x once c is = subst HasOnce is once
 abbrev KeysDiffer : {X : Type 0} → Text × X → Text × X → Type 0
 KeysDiffer e f = ¬ (e.0 ≡ f.0)
 
-entries_reordered : {X : Type 0} (es fs : List (Text × X)) → Reordered es fs → EachTwo KeysDiffer es
+pub entries_reordered : {X : Type 0} (es fs : List (Text × X)) → Reordered es fs → EachTwo KeysDiffer es
     → from_entries {R = text_cmp} fs ≡ from_entries es
 entries_reordered es fs same all = refl
 entries_reordered es fs (keep e {xs = us} {ys = vs} r) (two_and first more) = ap (λ m. insert m e.0 e.1) (entries_reordered us vs r more)
@@ -79,13 +79,13 @@ entries_reordered es fs (joined {ys = ms} p q) all =
     entries_reordered ms fs q (each_two_reordered KeysDiffer (λ e f apart equal. apart (sym equal)) es ms p all) ∙ entries_reordered es ms p all
 
 -- the map of named elements in another order
-entries_permuted : {X Y : Type 0} (name : Y → Spot) (entry : Y → X) (ys zs : List Y) → IsPermutation ys zs → StandOnce (map name ys)
+pub entries_permuted : {X Y : Type 0} (name : Y → Spot) (entry : Y → X) (ys zs : List Y) → IsPermutation ys zs → StandOnce (map name ys)
     → from_entries {R = text_cmp} (map (λ y. ((name y).text, entry y)) zs) ≡ from_entries (map (λ y. ((name y).text, entry y)) ys)
 entries_permuted name entry ys zs permuted once =
     entries_reordered _ _ (reordered _ _ (IsPermutation-map (λ y. ((name y).text, entry y)) ys zs permuted))
     (each_two_named KeysDiffer name (λ y. ((name y).text, entry y)) (λ y z apart. apart) ys once)
 
-same_entry : (name : Spot) (parent : Option Spot) (fs gs : List Field) (ms ns : List Method) → IsPermutation fs gs → IsPermutation ms ns
+pub same_entry : (name : Spot) (parent : Option Spot) (fs gs : List Field) (ms ns : List Method) → IsPermutation fs gs → IsPermutation ms ns
     → StandOnce (map (λ f. f.name) fs) → StandOnce (map (λ m. m.name) ms)
     → class_entry (record { name = name; parent = parent; fields = gs; methods = ns }) ≡ class_entry (record { name = name; parent = parent; fields = fs; methods = ms })
 same_entry name parent fs gs ms ns p q fields methods =

@@ -1,1 +1,3 @@
+pub mod JavaFaults
 pub mod Refusals
+pub mod Sayable

@@ -1,0 +1,4 @@
+pub mod Told
+pub mod TableTold
+pub mod LineTold
+pub mod Symbols
