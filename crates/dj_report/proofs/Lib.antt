@@ -1,2 +1,4 @@
 pub mod Texts
 pub mod OneText
+pub mod RuleLines
+pub mod Choosing

@@ -5,7 +5,7 @@ use Rattle.dj_names.specs.Texts.{Text}
 use Rattle.dj_names.specs.Place.{ends_line, line_ends_before, IsLineStart, characters_between, IsColumn}
 use Rattle.dj_lexer.specs.Laws.{OneTokenAt}
 use Rattle.dj_report.specs.Places.{IsPlaceText, line_and_column}
-use Rattle.dj_report.specs.Refusals.{refused, refused_name, line_words, lex_words, too_long, no_tokens, no_source, at_fault, at_fault_with}
+use Rattle.dj_report.specs.Refusals.{refused, refused_name, line_words, lex_words, java_words, too_long, no_tokens, no_source, at_fault, at_fault_with, at_java_fault}
 use Rattle.dj_report.specs.Laws.{OneRefusalText}
 
 -- ---- columns
@@ -25,7 +25,7 @@ one_column : (bytes : List ℕ) (at a b : ℕ) → IsColumn bytes at a → IsCol
 one_column bytes at a b (s, start, is) (t, other, so) =
     is ∙ ap (λ n. characters_between bytes n at + 1) (one_start bytes s t at start other) ∙ sym so
 
-one_place : (bytes : List ℕ) (at : ℕ) (a b : Text) → IsPlaceText bytes at a → IsPlaceText bytes at b → a ≡ b
+pub one_place : (bytes : List ℕ) (at : ℕ) (a b : Text) → IsPlaceText bytes at a → IsPlaceText bytes at b → a ≡ b
 one_place bytes at a b (line_and_column m column) (line_and_column n other) =
     ap (λ k. decimal (line_ends_before bytes at + 1) ++ (codes ":" ++ decimal k)) (one_column bytes at m n column other)
 
@@ -40,3 +40,5 @@ one_text one_token bytes _ _ _ (at_fault fault at p bare at_p) (at_fault_with _ 
 one_text one_token bytes _ _ _ (at_fault_with fault at p name takes at_p is) (at_fault _ _ q bare at_q) = cc
 one_text one_token bytes _ _ _ (at_fault_with fault at p name takes at_p is) (at_fault_with _ _ q other _ at_q so) =
     ap (λ p. refused_name p (line_words fault) name) (one_place bytes at p q at_p at_q) ∙ ap (λ n. refused_name q (line_words fault) n) (one_token bytes at name other is so)
+one_text one_token bytes _ _ _ (at_java_fault fault at p name at_p is) (at_java_fault _ _ q other at_q so) =
+    ap (λ p. refused_name p (java_words fault) name) (one_place bytes at p q at_p at_q) ∙ ap (λ n. refused_name q (java_words fault) n) (one_token bytes at name other is so)

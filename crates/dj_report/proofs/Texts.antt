@@ -8,9 +8,10 @@ use Rattle.dj_lexer.specs.declared.token.LexFault.{LexFault}
 use Rattle.dj_faults.specs.declared.fault.LineFault.{LineFault}
 use Rattle.dj_report.specs.Join.{joined, line_end}
 use Rattle.dj_report.specs.Places.{IsPlaceText, line_and_column}
-use Rattle.dj_report.specs.Refusals.{lex_words, line_words, refused, refused_name, IsRefusalText, too_long, no_tokens, no_source, at_fault, at_fault_with}
+use Rattle.dj_report.specs.Refusals.{lex_words, line_words, java_words, refused, refused_name, IsRefusalText, too_long, no_tokens, no_source, at_fault, at_fault_with, at_java_fault}
 use Rattle.dj_refusals.specs.Refusals.{lex_place, takes_name}
-use Rattle.dj_refusals.specs.declared.refusal.Refusal.TheVariants.{TooLong, Lex, Syntax, Line}
+use Rattle.dj_refusals.specs.declared.refusal.JavaFault.{JavaFault}
+use Rattle.dj_refusals.specs.declared.refusal.Refusal.TheVariants.{TooLong, Lex, Syntax, Line, Java}
 
 pub place_of_parts : (bytes : List ℕ) (at line column : ℕ) (text : Text) → line ≡ line_ends_before bytes at + 1 → IsColumn bytes at column
     → text ≡ decimal line ++ (codes ":" ++ decimal column) → IsPlaceText bytes at text
@@ -40,6 +41,12 @@ pub name_refused : (bytes : List ℕ) (fault : LineFault) (at : ℕ) (place word
 name_refused bytes fault at place words name text takes stands says_name said says =
     let P : Text → Type 0 = IsRefusalText bytes (Line fault at) in
     subst P (sym (says ∙ ap (λ w. refused_name place w name) said)) (at_fault_with fault at place name takes stands says_name)
+
+pub java_refused : (bytes : List ℕ) (fault : JavaFault) (at : ℕ) (place words name text : Text) → IsPlaceText bytes at place → IsTokenAt bytes at name
+    → words ≡ java_words fault → text ≡ refused_name place words name → IsRefusalText bytes (Java fault at) text
+java_refused bytes fault at place words name text stands says_name said says =
+    let P : Text → Type 0 = IsRefusalText bytes (Java fault at) in
+    subst P (sym (says ∙ ap (λ w. refused_name place w name) said)) (at_java_fault fault at place name stands says_name)
 
 pub length_refused : (bytes text : List ℕ) → text ≡ joined (codes "refused: longer than 4194304 bytes" ∷ line_end ∷ []) → IsRefusalText bytes TooLong text
 length_refused bytes text says = let P : Text → Type 0 = IsRefusalText bytes TooLong in subst P (sym says) too_long

@@ -9,8 +9,10 @@ use Rattle.dj_faults.specs.declared.fault.LineFault.TheVariants.{RepeatedFeature
 use Rattle.dj_report.specs.Join.{joined, line_end}
 use Rattle.dj_report.specs.Places.{IsPlaceText}
 use Rattle.dj_refusals.specs.Refusals.{lex_place, takes_name}
+use Rattle.dj_refusals.specs.declared.refusal.JavaFault.{JavaFault}
+use Rattle.dj_refusals.specs.declared.refusal.JavaFault.TheVariants.{Class, Member, Parameter}
 use Rattle.dj_refusals.specs.declared.refusal.Refusal.{Refusal}
-use Rattle.dj_refusals.specs.declared.refusal.Refusal.TheVariants.{TooLong, Lex, Syntax, Line}
+use Rattle.dj_refusals.specs.declared.refusal.Refusal.TheVariants.{TooLong, Lex, Syntax, Line, Java}
 
 -- the words of a fault of the tokens
 abbrev pub lex_words : LexFault → Text
@@ -37,6 +39,12 @@ line_words RepeatedParameter = codes "repeated parameter"
 line_words ReservedClass = codes "reserved class"
 line_words OriginalOutside = codes "original outside a modified method"
 
+-- the words of a fault of a Java file, before the name that it is about
+abbrev pub java_words : JavaFault → Text
+java_words Class = codes "repeated class"
+java_words Member = codes "repeated member"
+java_words Parameter = codes "repeated parameter"
+
 -- ---- texts
 
 -- "refused at", the place and the words
@@ -55,3 +63,5 @@ pub data IsRefusalText (bytes : List ℕ) : Refusal → Text → Type 0 where
       → IsRefusalText bytes (Line fault at) (refused place (line_words fault))
   at_fault_with : (fault : LineFault) (at : ℕ) (place name : Text) → takes_name fault ≡ true → IsPlaceText bytes at place
       → IsTokenAt bytes at name → IsRefusalText bytes (Line fault at) (refused_name place (line_words fault) name)
+  at_java_fault : (fault : JavaFault) (at : ℕ) (place name : Text) → IsPlaceText bytes at place → IsTokenAt bytes at name
+      → IsRefusalText bytes (Java fault at) (refused_name place (java_words fault) name)

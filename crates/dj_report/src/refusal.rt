@@ -5,10 +5,10 @@ ghost use Rattle.dj_report.specs.Refusals.{IsRefusalText, refused, refused_name}
 
 use crate::join::joined;
 use crate::place::place_text;
-use crate::words::{lex_place, lex_words, line_words, takes_name};
+use crate::words::{java_words, lex_place, lex_words, line_words, takes_name};
 use dj_faults::LineFault;
 use dj_lexer::token_at;
-use dj_refusals::Refusal;
+use dj_refusals::{JavaFault, Refusal};
 use std::alloc::{AllocError as NoMemory, Global};
 
 /// The text of a refusal of a file, with the places in its bytes as line and column. It needs that the place stands
@@ -31,6 +31,7 @@ pub fn refusal_text(alloc: Global, bytes: &[u8], refusal: &Refusal) -> Result<Ve
             refused_text(alloc, &place, "syntax")
         }
         Refusal::Line(fault, at) => line_text(alloc, bytes, fault, at),
+        Refusal::Java(fault, at) => java_text(alloc, bytes, fault, at),
     }
 }
 
@@ -47,6 +48,18 @@ fn line_text(alloc: Global, bytes: &[u8], fault: LineFault, at: u32) -> Result<V
     }
     let name = token_at(bytes, at);
     refused_name_text(alloc, &place, line_words(fault), name)
+}
+
+/// The text of a fault of a Java file.
+fn java_text(alloc: Global, bytes: &[u8], fault: JavaFault, at: u32) -> Result<Vec<u8>, NoMemory>
+    requires small { length bytes.now ≤ 4194305 }
+    requires within { at ≤ length bytes.now }
+    requires named { IsNamed bytes.now (Refusal.Java fault at) }
+    ensures { IfOk result (λ text. IsRefusalText bytes.now (Refusal.Java fault at) text.items) }
+{
+    let place = place_text(alloc, bytes, at)?;
+    let name = token_at(bytes, at);
+    refused_name_text(alloc, &place, java_words(fault), name)
 }
 
 fn refused_text(alloc: Global, place: &str, words: &str) -> Result<Vec<u8>, NoMemory>

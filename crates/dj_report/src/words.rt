@@ -1,10 +1,11 @@
 //! The words of each fault.
 ghost use Rattle.std.specs.Prelude.{◌≡◌};
 ghost use Rattle.dj_refusals.specs.Refusals.{lex_place as lex_place_of, takes_name as takes_name_of};
-ghost use Rattle.dj_report.specs.Refusals.{lex_words as lex_words_of, line_words as line_words_of};
+ghost use Rattle.dj_report.specs.Refusals.{java_words as java_words_of, lex_words as lex_words_of, line_words as line_words_of};
 
 use dj_faults::LineFault;
 use dj_lexer::LexFault;
+use dj_refusals::JavaFault;
 
 /// The byte offset of a fault of the tokens.
 pub fn lex_place(fault: LexFault) -> u32
@@ -49,6 +50,17 @@ pub fn line_words(fault: LineFault) -> &'static str
         LineFault::RepeatedParameter => "repeated parameter",
         LineFault::ReservedClass => "reserved class",
         LineFault::OriginalOutside => "original outside a modified method",
+    }
+}
+
+/// The words of a fault of a Java file, before the name that it is about.
+pub fn java_words(fault: JavaFault) -> &'static str
+    ensures { result.now ≡ java_words_of fault }
+{
+    match fault {
+        JavaFault::Class => "repeated class",
+        JavaFault::Member => "repeated member",
+        JavaFault::Parameter => "repeated parameter",
     }
 }
 
