@@ -1,0 +1,9 @@
+mod Entering
+mod Orders
+mod Filling
+mod FaultLemmas
+mod Ready
+mod Adding
+mod Stages
+mod Sizes
+mod OneAnswer

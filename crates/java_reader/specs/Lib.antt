@@ -1,0 +1,4 @@
+pub mod Making
+pub mod Faults
+pub mod Files
+pub mod Laws
