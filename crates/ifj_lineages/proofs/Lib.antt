@@ -1,0 +1,3 @@
+pub mod Overlaying
+pub mod Owners
+pub mod Telling

@@ -1,0 +1,3 @@
+pub mod Paths
+pub mod Versions
+pub mod Keeping
