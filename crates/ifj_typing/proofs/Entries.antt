@@ -22,7 +22,7 @@ use Rattle.ifj_table.specs.declared.table.Table.{Table}
 use Rattle.ifj_table.proofs.EntryMaps.{got, got_at, some_there}
 use Rattle.ifj_table.proofs.MemberLemmas.{field_key, method_key}
 use Rattle.ifj_table.proofs.TableLemmas.{class_key, all_at}
-use Rattle.ifj_typing.proofs.Owners.{named_there}
+use Rattle.ifj_lineages.proofs.Owners.{named_there}
 
 -- the entry of a list that stands at a key of its map
 pub record Entry {E X : Type 0} (key : E → Text) (read : E → X) (es : List E) (k : Text) (x : X) : Type 0 where

@@ -23,6 +23,7 @@ use Rattle.ifj_table.specs.declared.table.Table.{Table}
 use Rattle.ifj_table.proofs.MapLists.{not_less_itself}
 use Rattle.ifj_table.proofs.TableLemmas.{class_key, class_at, all_at}
 use Rattle.ifj_table.proofs.Inherited.{entry_held}
+use Rattle.ifj_lineages.proofs.Owners.{key_at, named_there}
 
 -- what a test that failed denies
 pub denied : (b : Bool) {P : Type 0} → Decides b P → b ≡ false → ¬ P
@@ -38,27 +39,15 @@ rising_once keys i j key rising one other =
     (λ more. either more (λ same. same) (λ low. not_less_itself key (rising j i key key low other one)))
 
 module _ (t : Table) where
-  key_at : (number : ℕ) (name : Text) (class : ClassEntry) → slice_get t.classes.items number ≡ Some class → text_at t.names class.spot ≡ name
-      → slice_get (map (class_key t.names) t.classes.items) number ≡ Some name
-  key_at number name class stands named =
-      slice_get-map (class_key t.names) t.classes.items number ∙ ap (option_map (class_key t.names)) stands ∙ ap Some named
-
   -- a class of the table is known by its name
   pub one_class_named : (name : Text) (a b : ClassEntry) → IsClassNamed t name a → IsClassNamed t name b → a ≡ b
   one_class_named name a b one other =
       let same = rising_once (map (class_key t.names) t.classes.items) one.number other.number name t.held.rising
-      (key_at one.number name a one.stands one.named) (key_at other.number name b other.stands other.named) in
+      (key_at t one.number name a one.stands one.named) (key_at t other.number name b other.stands other.named) in
       same_some a b (slice_get t.classes.items other.number) (subst (λ n. slice_get t.classes.items n ≡ Some a) same one.stands) other.stands
 
-  -- and it is what the class table has there
-  pub named_there : (name : Text) (class : ClassEntry) → IsClassNamed t name class → get (plain_table t) name ≡ Some (plain_class t.names t.exprs class)
-  named_there name class is =
-      let it = class_at t.names t.exprs t.classes.items t.held is.number name (key_at is.number name class is.stands is.named) in
-      let same : it.0 ≡ class = same_some it.0 class (slice_get t.classes.items is.number) it.1 is.stands in
-      it.3 ∙ ap (λ (c : ClassEntry). Some (plain_class t.names t.exprs c)) same
-
   pub not_missing : {G : Type 0} (name : Text) (class : ClassEntry) → IsClassNamed t name class → get (plain_table t) name ≡ None → G
-  not_missing name class is none = let there = named_there name class is in absurd cc
+  not_missing name class is none = let there = named_there t name class is in absurd cc
 
   module _ (class name : Text) (found : Found) (owner : ClassEntry) where
     pub field_stands : (is : IsFoundField t class name found) → IsClassNamed t (text_at t.names (record { name = found.owner; at = 0 })) owner → slice_get owner.fields.items found.place ≡ Some is.entry

@@ -7,6 +7,7 @@ use Rattle.dj_calculus.specs.Typing.{Home, home_of}
 use Rattle.ifj_table.specs.Tables.{plain_table, table_names, table_nodes}
 use Rattle.ifj_table.specs.Entries.{plain_method, plain_body}
 use Rattle.ifj_table.specs.Held.{IsMethodEntry, IsBody}
+use Rattle.ifj_lineages.specs.Lineages.{AreLineages}
 use Rattle.ifj_typing.specs.Kinds.{text_of, IsKnownKind}
 use Rattle.ifj_typing.specs.Least.{IsFault}
 use Rattle.ifj_typing.specs.Parameters.{TellsTypes, spot_texts}
@@ -24,8 +25,9 @@ scope_home s =
     home_of (text_of (table_names s.table.now) s.class) (plain_method (table_names s.table.now) (table_nodes s.table.now) s.method.now)
     (plain_body (table_names s.table.now) (table_nodes s.table.now) s.body.now)
 
--- its class, its method and its body are of the table, and the types are those of its parameters
+-- its class, its method, its body and its lineages are of the table, and the types are those of its parameters
 pub record IsScope (s : Scope) : Type 0 where
+  pub has_lineages : AreLineages s.table.now s.lineages.now
   pub named : s.class.0 < length (table_names s.table.now)
   pub has_method : IsMethodEntry (table_names s.table.now) (table_nodes s.table.now) s.method.now
   pub has_body : IsBody (table_names s.table.now) (table_nodes s.table.now) (length s.method.now.parameters) s.body.now

@@ -4,6 +4,7 @@ ghost use Rattle.dj_tree.specs.WellFormed.{IsExprNode};
 ghost use Rattle.ifj_table.specs.Tables.{plain_table, table_names, table_nodes, table_classes};
 ghost use Rattle.ifj_table.specs.Entries.{text_at};
 ghost use Rattle.ifj_table.specs.Held.{IsBody, IsMethodEntry, IsClassEntry, AreClasses};
+ghost use Rattle.ifj_lineages.specs.Lineages.{AreLineages};
 ghost use Rattle.ifj_typing.specs.Kinds.{text_of};
 ghost use Rattle.ifj_typing.specs.Least.{IsLeastOf};
 ghost use Rattle.ifj_typing.specs.Said.{IsRight};
@@ -18,6 +19,7 @@ use crate::scope::Scope;
 use arena_walk::walk;
 use dj_names::Name;
 use dj_tree::Instance;
+use ifj_lineages::Lineages;
 use ifj_table::{Body, ClassEntry, MethodEntry, Table};
 use indexmap::IndexMap;
 use std::alloc::{AllocError as NoMemory, Global};
@@ -26,11 +28,13 @@ use std::alloc::{AllocError as NoMemory, Global};
 fn typed_body(
     alloc: Global,
     table: &Table,
+    lineages: &Lineages,
     class: Name,
     method: &MethodEntry,
     body: &Body,
     parameters: &IndexMap<u32, Name>,
 ) -> Result<Typed, NoMemory>
+    requires lineages { AreLineages table.now lineages.now }
     requires class { class.0 < length (table_names table.now) }
     requires method { IsMethodEntry (table_names table.now) (table_nodes table.now) method.now }
     requires body { IsBody (table_names table.now) (table_nodes table.now) (length method.now.parameters) body.now }
@@ -41,6 +45,7 @@ fn typed_body(
 {
     let mut scope = Scope {
         table,
+        lineages,
         class,
         method,
         body,
@@ -57,11 +62,13 @@ fn typed_body(
 fn body_fault_with(
     alloc: Global,
     table: &Table,
+    lineages: &Lineages,
     class: Name,
     method: &MethodEntry,
     body: &Body,
     parameters: &IndexMap<u32, Name>,
 ) -> Result<Option<Instance>, NoMemory>
+    requires lineages { AreLineages table.now lineages.now }
     requires class { class.0 < length (table_names table.now) }
     requires method { IsMethodEntry (table_names table.now) (table_nodes table.now) method.now }
     requires body { IsBody (table_names table.now) (table_nodes table.now) (length method.now.parameters) body.now }
@@ -69,11 +76,11 @@ fn body_fault_with(
     requires nodes { All (IsExprNode (table_names table.now)) (table_nodes table.now) }
     ensures { IfOk result (IsLeastOf (BreaksBodyOf table.now (text_of (table_names table.now) class) method.now body.now)) }
 {
-    let root = typed_body(alloc, table, class, method, body, parameters)?;
+    let root = typed_body(alloc, table, lineages, class, method, body, parameters)?;
     match root.found {
         Err(fault) => Ok(Some(fault)),
         Ok(kind) => {
-            if is_below(table, kind, method.result.name) {
+            if is_below(table, lineages, kind, method.result.name) {
                 Ok(None)
             } else {
                 Ok(Some(instance(21, root.at)))
@@ -86,10 +93,12 @@ fn body_fault_with(
 fn body_fault(
     alloc: Global,
     table: &Table,
+    lineages: &Lineages,
     class: Name,
     method: &MethodEntry,
     body: &Body,
 ) -> Result<Option<Instance>, NoMemory>
+    requires lineages { AreLineages table.now lineages.now }
     requires class { class.0 < length (table_names table.now) }
     requires method { IsMethodEntry (table_names table.now) (table_nodes table.now) method.now }
     requires body { IsBody (table_names table.now) (table_nodes table.now) (length method.now.parameters) body.now }
@@ -97,16 +106,18 @@ fn body_fault(
     ensures { IfOk result (IsLeastOf (BreaksBodyOf table.now (text_of (table_names table.now) class) method.now body.now)) }
 {
     let parameters = parameter_types(alloc, table, method, body)?;
-    body_fault_with(alloc, table, class, method, body, &parameters)
+    body_fault_with(alloc, table, lineages, class, method, body, &parameters)
 }
 
 // The least instance of the bodies that a method keeps.
 fn method_fault(
     alloc: Global,
     table: &Table,
+    lineages: &Lineages,
     class: Name,
     method: &MethodEntry,
 ) -> Result<Option<Instance>, NoMemory>
+    requires lineages { AreLineages table.now lineages.now }
     requires class { class.0 < length (table_names table.now) }
     requires method { IsMethodEntry (table_names table.now) (table_nodes table.now) method.now }
     requires nodes { All (IsExprNode (table_names table.now)) (table_nodes table.now) }
@@ -114,7 +125,7 @@ fn method_fault(
 {
     let mut least = None;
     for body in &method.bodies {
-        let fault = body_fault(alloc, table, class, method, body)?;
+        let fault = body_fault(alloc, table, lineages, class, method, body)?;
         least = lesser(least, fault);
     }
     Ok(least)
@@ -124,15 +135,17 @@ fn method_fault(
 fn class_fault(
     alloc: Global,
     table: &Table,
+    lineages: &Lineages,
     class: &ClassEntry,
 ) -> Result<Option<Instance>, NoMemory>
+    requires lineages { AreLineages table.now lineages.now }
     requires class { IsClassEntry (table_names table.now) (table_nodes table.now) class.now }
     requires nodes { All (IsExprNode (table_names table.now)) (table_nodes table.now) }
     ensures { IfOk result (IsLeastOf (BreaksClassOf table.now class.now)) }
 {
     let mut least = None;
     for method in &class.methods {
-        let fault = method_fault(alloc, table, class.spot.name, method)?;
+        let fault = method_fault(alloc, table, lineages, class.spot.name, method)?;
         least = lesser(least, fault);
     }
     Ok(least)
@@ -140,12 +153,17 @@ fn class_fault(
 
 /// The least instance of a rule of layer 5: of a node of a body, or of a body's own type. Each body that a method keeps
 /// is typed in its own class. The one error is want of memory.
-pub fn bodies_fault(alloc: Global, table: &Table) -> Result<Option<Instance>, NoMemory>
+pub fn bodies_fault(
+    alloc: Global,
+    table: &Table,
+    lineages: &Lineages,
+) -> Result<Option<Instance>, NoMemory>
+    requires { AreLineages table.now lineages.now }
     ensures { IfOk result (IsLeastOf (BreaksBodies table.now)) }
 {
     let mut least = None;
     for class in table.classes() {
-        let fault = class_fault(alloc, table, class)?;
+        let fault = class_fault(alloc, table, lineages, class)?;
         least = lesser(least, fault);
     }
     Ok(least)

@@ -7,11 +7,13 @@ ghost use Rattle.ifj_table.specs.Tables.{plain_table, table_names, table_nodes};
 ghost use Rattle.ifj_table.specs.Entries.{plain_signature};
 ghost use Rattle.ifj_table.specs.Held.{IsMethodEntry};
 ghost use Rattle.ifj_table.specs.Lookups.{HasNoMethod};
+ghost use Rattle.ifj_lineages.specs.Lineages.{AreLineages};
 ghost use Rattle.ifj_typing.specs.Owned.{IsOwned};
 ghost use Rattle.ifj_typing.specs.Kinds.{text_of, plain_kind, IsKnownKind};
 
 use crate::kind::Kind;
 use dj_names::Name;
+use ifj_lineages::Lineages;
 use ifj_table::{ClassEntry, MethodEntry, Table};
 
 /// Whether a class exists: it is in the table, or is `Object`.
@@ -29,31 +31,39 @@ pub fn exists(table: &Table, class: Name) -> bool
 }
 
 /// Whether a type is below a class.
-pub fn is_below(table: &Table, kind: Kind, class: Name) -> bool
+pub fn is_below(table: &Table, lineages: &Lineages, kind: Kind, class: Name) -> bool
+    requires lineages { AreLineages table.now lineages.now }
     requires kind { IsKnownKind (table_names table.now) kind }
     requires class { class.0 < length (table_names table.now) }
     ensures { Decides result (Below (plain_table table.now) (plain_kind (table_names table.now) kind) (class_kind (text_of (table_names table.now) class))) }
 {
     match kind {
         Kind::Null => true,
-        Kind::Class(lower) => table.is_subclass(lower, class),
+        Kind::Class(lower) => lineages.is_subclass(table, lower, class),
     }
 }
 
 /// Whether a class is below a type.
-pub fn is_above(table: &Table, kind: Kind, class: Name) -> bool
+pub fn is_above(table: &Table, lineages: &Lineages, kind: Kind, class: Name) -> bool
+    requires lineages { AreLineages table.now lineages.now }
     requires kind { IsKnownKind (table_names table.now) kind }
     requires class { class.0 < length (table_names table.now) }
     ensures { Decides result (Below (plain_table table.now) (class_kind (text_of (table_names table.now) class)) (plain_kind (table_names table.now) kind)) }
 {
     match kind {
         Kind::Null => false,
-        Kind::Class(upper) => table.is_subclass(class, upper),
+        Kind::Class(upper) => lineages.is_subclass(table, class, upper),
     }
 }
 
 /// The type of the field of this name that a class has or inherits.
-pub fn field_type(table: &Table, class: Name, field: Name) -> Option<Name>
+pub fn field_type(
+    table: &Table,
+    lineages: &Lineages,
+    class: Name,
+    field: Name,
+) -> Option<Name>
+    requires lineages { AreLineages table.now lineages.now }
     requires class { class.0 < length (table_names table.now) }
     requires field { field.0 < length (table_names table.now) }
     ensures found { MatchOption result
@@ -61,7 +71,7 @@ pub fn field_type(table: &Table, class: Name, field: Name) -> Option<Name>
         (λ kind. FieldOf (plain_table table.now) (text_of (table_names table.now) class) (text_of (table_names table.now) field) (text_of (table_names table.now) kind)) }
     ensures known { IfSome result (λ kind. kind.0 < length (table_names table.now)) }
 {
-    let found = match table.find_field(class, field) {
+    let found = match lineages.find_field(table, class, field) {
         Some(found) => found,
         None => return None,
     };
@@ -80,14 +90,20 @@ pub struct Owned<'a> {
 }
 
 /// The method of this name that a class has or inherits, and the class that has it.
-pub fn owned_method(table: &Table, class: Name, method: Name) -> Option<Owned<'_>>
+pub fn owned_method<'a>(
+    table: &'a Table,
+    lineages: &Lineages,
+    class: Name,
+    method: Name,
+) -> Option<Owned<'a>>
+    requires lineages { AreLineages table.now lineages.now }
     requires class { class.0 < length (table_names table.now) }
     requires method { method.0 < length (table_names table.now) }
     ensures { MatchOption result
         (HasNoMethod table.now (text_of (table_names table.now) class) (text_of (table_names table.now) method))
         (λ owned. IsOwned table.now (text_of (table_names table.now) class) (text_of (table_names table.now) method) owned.class.now owned.method.now) }
 {
-    let found = match table.find_method(class, method) {
+    let found = match lineages.find_method(table, class, method) {
         Some(found) => found,
         None => return None,
     };
@@ -102,7 +118,13 @@ pub fn owned_method(table: &Table, class: Name, method: Name) -> Option<Owned<'_
 }
 
 /// The method of this name that a class has or inherits.
-pub fn method_of(table: &Table, class: Name, method: Name) -> Option<&MethodEntry>
+pub fn method_of<'a>(
+    table: &'a Table,
+    lineages: &Lineages,
+    class: Name,
+    method: Name,
+) -> Option<&'a MethodEntry>
+    requires lineages { AreLineages table.now lineages.now }
     requires class { class.0 < length (table_names table.now) }
     requires method { method.0 < length (table_names table.now) }
     ensures found { MatchOption result
@@ -111,7 +133,7 @@ pub fn method_of(table: &Table, class: Name, method: Name) -> Option<&MethodEntr
         (heading_of (plain_signature (table_names table.now) entry.now))) }
     ensures held { IfSome result (λ entry. IsMethodEntry (table_names table.now) (table_nodes table.now) entry.now) }
 {
-    match owned_method(table, class, method) {
+    match owned_method(table, lineages, class, method) {
         Some(owned) => Some(owned.method),
         None => None,
     }

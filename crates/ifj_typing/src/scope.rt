@@ -6,6 +6,7 @@ use crate::least::{least_fault, lesser};
 use crate::lookups::{exists, field_type, is_above, is_below, method_of};
 use dj_names::Name;
 use dj_tree::{ExprNode, Instance, Spot};
+use ifj_lineages::Lineages;
 use ifj_table::{Body, MethodEntry, Table};
 use indexmap::IndexMap;
 
@@ -13,6 +14,7 @@ use indexmap::IndexMap;
 #[derive(Drop)]
 pub struct Scope<'a> {
     pub table: &'a Table,
+    pub lineages: &'a Lineages,
     pub class: Name,
     pub method: &'a MethodEntry,
     pub body: &'a Body,
@@ -79,6 +81,7 @@ impl Scope<'_> {
     }
 
     fn cast(&self, class: Spot, kind: Kind) -> Result<Kind, Instance>
+        requires scope { IsScope self.now }
         requires known { IsKnown (scope_names self.now) class }
         requires kind { IsKnownKind (scope_names self.now) kind }
         ensures says { (e : Expr) → Types (scope_table self.now) (scope_home self.now) e (plain_kind (scope_names self.now) kind)
@@ -88,16 +91,17 @@ impl Scope<'_> {
         if !exists(self.table, class.name) {
             return Err(instance(15, class.at));
         }
-        if is_below(self.table, kind, class.name) {
+        if is_below(self.table, self.lineages, kind, class.name) {
             return Ok(Kind::Class(class.name));
         }
-        if is_above(self.table, kind, class.name) {
+        if is_above(self.table, self.lineages, kind, class.name) {
             return Ok(Kind::Class(class.name));
         }
         Err(instance(22, class.at))
     }
 
     fn field(&self, field: Spot, object: Kind) -> Result<Kind, Instance>
+        requires scope { IsScope self.now }
         requires known { IsKnown (scope_names self.now) field }
         requires object { IsKnownKind (scope_names self.now) object }
         ensures says { (e : Expr) → Types (scope_table self.now) (scope_home self.now) e (plain_kind (scope_names self.now) object)
@@ -106,7 +110,7 @@ impl Scope<'_> {
     {
         match object {
             Kind::Null => Err(instance(23, field.at)),
-            Kind::Class(class) => match field_type(self.table, class, field.name) {
+            Kind::Class(class) => match field_type(self.table, self.lineages, class, field.name) {
                 Some(kind) => Ok(Kind::Class(kind)),
                 None => Err(instance(16, field.at)),
             },
@@ -114,6 +118,7 @@ impl Scope<'_> {
     }
 
     fn assignment(&self, field: Spot, object: Kind, value: Kind) -> Result<Kind, Instance>
+        requires scope { IsScope self.now }
         requires known { IsKnown (scope_names self.now) field }
         requires object { IsKnownKind (scope_names self.now) object }
         requires value { IsKnownKind (scope_names self.now) value }
@@ -124,7 +129,7 @@ impl Scope<'_> {
     {
         match object {
             Kind::Null => Err(instance(23, field.at)),
-            Kind::Class(class) => match field_type(self.table, class, field.name) {
+            Kind::Class(class) => match field_type(self.table, self.lineages, class, field.name) {
                 Some(kind) => self.assigned(field, kind, value),
                 None => Err(instance(16, field.at)),
             },
@@ -133,13 +138,14 @@ impl Scope<'_> {
 
     // A value put into a field of this type.
     fn assigned(&self, field: Spot, kind: Name, value: Kind) -> Result<Kind, Instance>
+        requires scope { IsScope self.now }
         requires known { kind.0 < length (scope_names self.now) }
         requires value { IsKnownKind (scope_names self.now) value }
         ensures fits { MatchResult result
             (λ found. (found ≡ Class kind) × Below (scope_table self.now) (plain_kind (scope_names self.now) value) (class_kind (text_of (scope_names self.now) kind)))
             (λ i. (i ≡ record { rule = 20; at = field.at; second = field.at }) × ¬ (Below (scope_table self.now) (plain_kind (scope_names self.now) value) (class_kind (text_of (scope_names self.now) kind)))) }
     {
-        if is_below(self.table, value, kind) {
+        if is_below(self.table, self.lineages, value, kind) {
             Ok(Kind::Class(kind))
         } else {
             Err(instance(20, field.at))
@@ -160,6 +166,7 @@ impl Scope<'_> {
 
     // The instance of an argument whose type isn't below that of its parameter.
     fn misfit_of(&self, argument: &Typed, kind: Spot) -> Option<Instance>
+        requires scope { IsScope self.now }
         requires typed { IsTyped (scope_names self.now) argument.now }
         requires known { IsKnown (scope_names self.now) kind }
         ensures { (e : Expr) → IsRight (scope_table self.now) (scope_home self.now) (scope_names self.now) e argument.now
@@ -167,7 +174,7 @@ impl Scope<'_> {
             (WrongOne (scope_table self.now) (scope_home self.now) e (text_of (scope_names self.now) kind.name)) result }
     {
         let found = self.kind_of(argument);
-        if is_below(self.table, found, kind.name) {
+        if is_below(self.table, self.lineages, found, kind.name) {
             None
         } else {
             Some(instance(19, argument.at))
@@ -176,6 +183,7 @@ impl Scope<'_> {
 
     // The least instance of such arguments, of which there are as many as types.
     fn misfit(&self, types: &[Spot], arguments: &[Typed]) -> Option<Instance>
+        requires scope { IsScope self.now }
         requires typed { AreTyped (scope_names self.now) arguments.now }
         requires known { All (IsKnown (scope_names self.now)) types.now }
         requires count { length arguments.now ≡ length types.now }
@@ -192,6 +200,7 @@ impl Scope<'_> {
 
     // Whether arguments of a call at a place fit the types of its parameters.
     fn fit(&self, types: &[Spot], arguments: &[Typed], at: u32) -> Result<(), Instance>
+        requires scope { IsScope self.now }
         requires typed { AreTyped (scope_names self.now) arguments.now }
         requires known { All (IsKnown (scope_names self.now)) types.now }
         ensures { (es : List Expr) → AllZip (IsRight (scope_table self.now) (scope_home self.now) (scope_names self.now)) es arguments.now
@@ -209,6 +218,7 @@ impl Scope<'_> {
     }
 
     fn call(&self, method: Spot, object: Kind, arguments: &[Typed]) -> Result<Kind, Instance>
+        requires scope { IsScope self.now }
         requires known { IsKnown (scope_names self.now) method }
         requires object { IsKnownKind (scope_names self.now) object }
         requires typed { AreTyped (scope_names self.now) arguments.now }
@@ -219,7 +229,7 @@ impl Scope<'_> {
     {
         match object {
             Kind::Null => Err(instance(23, method.at)),
-            Kind::Class(class) => match method_of(self.table, class, method.name) {
+            Kind::Class(class) => match method_of(self.table, self.lineages, class, method.name) {
                 None => Err(instance(17, method.at)),
                 Some(found) => match self.fit(found.parameters.as_slice(), arguments, method.at) {
                     Ok(()) => Ok(Kind::Class(found.result.name)),

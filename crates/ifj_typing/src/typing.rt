@@ -5,13 +5,16 @@ ghost use Rattle.dj_calculus.specs.Instances.{IsLeast};
 ghost use Rattle.dj_calculus.specs.TableRules.{CountsIn};
 ghost use Rattle.dj_calculus.specs.Typing.{WellTyped};
 ghost use Rattle.ifj_table.specs.Tables.{plain_table};
+ghost use Rattle.ifj_lineages.specs.Lineages.{AreLineages};
 ghost use Rattle.ifj_typing.specs.Broken.{IfBroken};
+ghost use Rattle.ifj_typing.specs.Declarations.{BreaksDeclarations};
 ghost use Rattle.ifj_typing.specs.Least.{IsLeastOf};
 
 use crate::bodies::bodies_fault;
 use crate::declarations::declarations_fault;
 use crate::inheritance::inheritance_fault;
 use dj_tree::Instance;
+use ifj_lineages::Lineages;
 use ifj_table::Table;
 use std::alloc::{AllocError as NoMemory, Global};
 
@@ -45,9 +48,25 @@ fn least_instance(alloc: Global, table: &Table) -> Result<Option<Instance>, NoMe
     let declarations = declarations_fault(alloc, table)?;
     match declarations {
         Some(instance) => Ok(Some(instance)),
-        None => match inheritance_fault(table) {
-            Some(instance) => Ok(Some(instance)),
-            None => bodies_fault(alloc, table),
-        },
+        None => {
+            let lineages = Lineages::new(alloc, table)?;
+            higher_instance(alloc, table, &lineages)
+        }
+    }
+}
+
+// The least instance where no rule of layer 3 is broken.
+fn higher_instance(
+    alloc: Global,
+    table: &Table,
+    lineages: &Lineages,
+) -> Result<Option<Instance>, NoMemory>
+    requires lineages { AreLineages table.now lineages.now }
+    requires declared { (i : Instance) → ¬ (BreaksDeclarations table.now i) }
+    ensures { IfOk result (IsLeastOf (CountsIn (plain_table table.now))) }
+{
+    match inheritance_fault(table, lineages) {
+        Some(instance) => Ok(Some(instance)),
+        None => bodies_fault(alloc, table, lineages),
     }
 }

@@ -7,7 +7,7 @@ use Rattle.ifj_table.proofs.Inherited.{entry_held}
 use Rattle.ifj_table.proofs.Superclasses.{among_keys, as_many_keys}
 use Rattle.ifj_typing.specs.Kinds.{text_of}
 use Rattle.ifj_typing.proofs.Overriding.{differing, none_differs, differs_here, none_left, climbs_past_owner}
-use Rattle.ifj_typing.proofs.Owners.{named_there}
+use Rattle.ifj_lineages.proofs.Owners.{named_there}
 use Rattle.ifj_typing.proofs.inheritance.differs_from.Goals as goal
 
 pub up-init : goal.up-init
