@@ -20,7 +20,12 @@ use ifj_lineages::Lineages;
 use ifj_table::{ClassEntry, FieldEntry, MethodEntry, Table};
 
 // A field whose name a class above has for a field too.
-fn hidden_fault(table: &Table, lineages: &Lineages, class: &ClassEntry, field: FieldEntry) -> Option<Instance>
+fn hidden_fault(
+    table: &Table,
+    lineages: &Lineages,
+    class: &ClassEntry,
+    field: FieldEntry,
+) -> Option<Instance>
     requires lineages { AreLineages table.now lineages.now }
     requires parent { IsKnown (table_names table.now) class.now.parent }
     requires field { IsKnown (table_names table.now) field.spot }
@@ -90,7 +95,12 @@ fn differs_from(table: &Table, lineages: &Lineages, class: Name, method: &Method
 }
 
 // A method that a class above has with another signature.
-fn override_fault(table: &Table, lineages: &Lineages, class: &ClassEntry, method: &MethodEntry) -> Option<Instance>
+fn override_fault(
+    table: &Table,
+    lineages: &Lineages,
+    class: &ClassEntry,
+    method: &MethodEntry,
+) -> Option<Instance>
     requires lineages { AreLineages table.now lineages.now }
     requires parent { IsKnown (table_names table.now) class.now.parent }
     requires method { IsMethodEntry (table_names table.now) (table_nodes table.now) method.now }

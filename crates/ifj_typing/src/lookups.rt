@@ -57,12 +57,7 @@ pub fn is_above(table: &Table, lineages: &Lineages, kind: Kind, class: Name) -> 
 }
 
 /// The type of the field of this name that a class has or inherits.
-pub fn field_type(
-    table: &Table,
-    lineages: &Lineages,
-    class: Name,
-    field: Name,
-) -> Option<Name>
+pub fn field_type(table: &Table, lineages: &Lineages, class: Name, field: Name) -> Option<Name>
     requires lineages { AreLineages table.now lineages.now }
     requires class { class.0 < length (table_names table.now) }
     requires field { field.0 < length (table_names table.now) }

@@ -16,6 +16,7 @@ use dj_names::Names;
 use dj_tree::{ExprNode, FieldDecl, Listed, Method, Spot};
 use ifj_table::Table;
 use std::alloc::{AllocError as NoMemory, Global};
+use std::process::Abort;
 use std::test::Fail;
 
 // A node of an expression, by the text that it says.
@@ -218,101 +219,149 @@ fn broken(alloc: Global, first: Row, second: Option<Row>) -> Result<Option<(u8, 
     }
 }
 
-fn without_parameter(
-    class: &'static str,
-    kind: &'static str,
-    name: &'static str,
-    steps: &'static [Step],
-) -> Row {
-    Row {
-        class,
-        result: kind,
-        name,
-        parameter: None,
-        steps,
-    }
-}
+// A method of A, with its result type and its body, and the rule that it breaks at a place, or none.
+type OfA = (&'static str, &'static [Step], Option<(u8, u32)>);
 
-// A method of A without parameters.
-fn of_a(kind: &'static str, steps: &'static [Step]) -> Row {
-    without_parameter("A", kind, "m", steps)
-}
-
-#[test]
-fn bodies_are_judged(rt: HostRuntime) -> Result<(), Fail> {
-    let rows: [(Row, Option<(u8, u32)>); 22] = [
-        (of_a("A", &[This]), None),
-        (of_a("B", &[This, Field("f")]), None),
-        (of_a("B", &[This, New("B"), Assign("f")]), None),
-        (of_a("E", &[Null, Cast("E")]), None),
-        (
-            of_a("B", &[This, Cast("Object"), Cast("A"), Cast("B")]),
-            None,
-        ),
-        // an unknown type, and each rule of bodies at its place
-        (of_a("Lost", &[This]), Some((11, 200))),
-        (of_a("A", &[Variable("x")]), Some((14, 210))),
-        (of_a("A", &[New("Lost")]), Some((15, 210))),
-        (of_a("A", &[This, Cast("Lost")]), Some((15, 211))),
-        (of_a("A", &[This, Field("g")]), Some((16, 211))),
-        (of_a("A", &[This, Call("k", 0)]), Some((17, 211))),
-        (of_a("A", &[This, This, Call("m", 1)]), Some((18, 212))),
-        (of_a("A", &[This, Original(1)]), Some((18, 211))),
-        (of_a("B", &[This, New("E"), Assign("f")]), Some((20, 212))),
-        (of_a("B", &[This]), Some((21, 210))),
-        (of_a("A", &[New("E"), Cast("A")]), Some((22, 211))),
-        (of_a("A", &[Null, Field("f")]), Some((23, 211))),
-        (of_a("A", &[Null, This, Call("m", 1)]), Some((23, 212))),
-        // a part without a type hides what is around it
-        (
-            of_a("A", &[This, Variable("x"), Call("k", 1)]),
-            Some((14, 211)),
-        ),
-        (of_a("A", &[Variable("x"), Cast("Lost")]), Some((14, 210))),
-        // the least rule of a body, and its least place
-        (
-            of_a("A", &[Null, Field("f"), Variable("x"), Assign("f")]),
-            Some((14, 212)),
-        ),
-        (
-            of_a("A", &[Variable("y"), Variable("x"), Assign("f")]),
-            Some((14, 210)),
-        ),
-    ];
-    for (row, want) in rows {
-        assert_eq!(rt; broken(rt.alloc(), row, None)?, want, "{row:?}");
+// Each such method m without parameters breaks this rule at this place, or none.
+fn each_breaks(rt: &impl Abort, alloc: Global, rows: &[OfA]) -> Result<(), NoMemory> {
+    for (result, steps, want) in rows {
+        let row = Row {
+            class: "A",
+            result,
+            name: "m",
+            parameter: None,
+            steps,
+        };
+        let found = broken(alloc, row, None)?;
+        assert!(rt; found == *want, "{row:?}");
     }
     Ok(())
 }
 
 #[test]
-fn methods_are_judged(rt: HostRuntime) -> Result<(), Fail> {
-    let takes_a = Row {
+fn bodies_are_well_typed(rt: HostRuntime) -> Result<(), Fail> {
+    let rows: [OfA; 6] = [
+        ("A", &[This], None),
+        ("Object", &[This], None),
+        ("B", &[This, Field("f")], None),
+        ("B", &[This, New("B"), Assign("f")], None),
+        // casts of null, up and down
+        ("E", &[Null, Cast("E")], None),
+        ("B", &[This, Cast("Object"), Cast("A"), Cast("B")], None),
+    ];
+    each_breaks(&rt, rt.alloc(), &rows)?;
+    Ok(())
+}
+
+#[test]
+fn names_of_bodies_are_found(rt: HostRuntime) -> Result<(), Fail> {
+    let rows: [OfA; 6] = [
+        ("Lost", &[This], Some((11, 200))),
+        ("A", &[Variable("x")], Some((14, 210))),
+        ("A", &[New("Lost")], Some((15, 210))),
+        ("A", &[This, Cast("Lost")], Some((15, 211))),
+        ("A", &[This, Field("g")], Some((16, 211))),
+        ("A", &[This, Call("k", 0)], Some((17, 211))),
+    ];
+    each_breaks(&rt, rt.alloc(), &rows)?;
+    Ok(())
+}
+
+#[test]
+fn types_of_bodies_are_judged(rt: HostRuntime) -> Result<(), Fail> {
+    let rows: [OfA; 7] = [
+        ("A", &[This, This, Call("m", 1)], Some((18, 212))),
+        ("A", &[This, Original(1)], Some((18, 211))),
+        ("B", &[This, New("E"), Assign("f")], Some((20, 212))),
+        ("B", &[This], Some((21, 210))),
+        // a cast across
+        ("A", &[New("E"), Cast("A")], Some((22, 211))),
+        ("A", &[Null, Field("f")], Some((23, 211))),
+        ("A", &[Null, This, Call("m", 1)], Some((23, 212))),
+    ];
+    each_breaks(&rt, rt.alloc(), &rows)?;
+    Ok(())
+}
+
+#[test]
+fn the_least_within_a_body_is_named(rt: HostRuntime) -> Result<(), Fail> {
+    let rows: [OfA; 7] = [
+        // a part without a type hides what is around it
+        ("A", &[This, Variable("x"), Call("k", 1)], Some((14, 211))),
+        ("A", &[Null, Variable("x"), Call("m", 1)], Some((14, 211))),
+        ("A", &[Variable("x"), Cast("Lost")], Some((14, 210))),
+        // the least rule, and its least place
+        (
+            "A",
+            &[Null, Field("f"), Variable("x"), Assign("f")],
+            Some((14, 212)),
+        ),
+        (
+            "A",
+            &[Variable("y"), Variable("x"), Assign("f")],
+            Some((14, 210)),
+        ),
+        (
+            "A",
+            &[New("Lost"), This, Field("g"), Assign("f")],
+            Some((15, 210)),
+        ),
+        // a lower layer hides the bodies
+        ("Lost", &[Null, Field("f")], Some((11, 200))),
+    ];
+    each_breaks(&rt, rt.alloc(), &rows)?;
+    Ok(())
+}
+
+// A method without parameters: its class, result type, name and body.
+type Second = (
+    &'static str,
+    &'static str,
+    &'static str,
+    &'static [Step],
+    Option<(u8, u32)>,
+);
+
+// Beside A's method m, which takes an A that is named as a field and gives it, each such method breaks this rule at this
+// place, or none.
+fn each_second_breaks(rt: &impl Abort, alloc: Global, rows: &[Second]) -> Result<(), NoMemory> {
+    let first = Row {
         class: "A",
         result: "A",
         name: "m",
         parameter: Some(("A", "f")),
         steps: &[Variable("f")],
     };
-    let rows: [(Row, Option<(u8, u32)>); 6] = [
+    for (class, result, name, steps, want) in rows {
+        let row = Row {
+            class,
+            result,
+            name,
+            parameter: None,
+            steps,
+        };
+        let found = broken(alloc, first, Some(row))?;
+        assert!(rt; found == *want, "{row:?}");
+    }
+    Ok(())
+}
+
+#[test]
+fn methods_are_judged(rt: HostRuntime) -> Result<(), Fail> {
+    let rows: [Second; 6] = [
+        ("B", "A", "n", &[This, Null, Call("m", 1)], None),
         (
-            without_parameter("B", "A", "n", &[This, Null, Call("m", 1)]),
-            None,
-        ),
-        (
-            without_parameter("B", "A", "n", &[This, New("E"), Call("m", 1)]),
+            "B",
+            "A",
+            "n",
+            &[This, New("E"), Call("m", 1)],
             Some((19, 261)),
         ),
-        (
-            without_parameter("B", "A", "n", &[This, Call("m", 0)]),
-            Some((18, 261)),
-        ),
-        (without_parameter("B", "A", "m", &[This]), Some((13, 251))),
-        (without_parameter("E", "B", "m", &[Null]), None),
-        (without_parameter("B", "E", "m", &[This]), Some((13, 251))),
+        ("B", "A", "n", &[This, Call("m", 0)], Some((18, 261))),
+        ("B", "A", "m", &[This], Some((13, 251))),
+        ("E", "B", "m", &[Null], None),
+        ("B", "E", "m", &[This], Some((13, 251))),
     ];
-    for (row, want) in rows {
-        assert_eq!(rt; broken(rt.alloc(), takes_a, Some(row))?, want, "{row:?}");
-    }
+    each_second_breaks(&rt, rt.alloc(), &rows)?;
     Ok(())
 }

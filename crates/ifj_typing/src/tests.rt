@@ -5,6 +5,7 @@ ghost use Rattle.ifj_table.specs.Tables.{table_names, table_nodes};
 use super::*;
 use ifj_table::Table;
 use std::alloc::{AllocError as NoMemory, Global};
+use std::process::Abort;
 use std::test::Fail;
 
 // Adds a class, where there is none of its name. Its superclass is named five bytes behind it.
@@ -45,24 +46,27 @@ pub fn add_field(
     }
 }
 
-// The table of these classes with their superclasses, the first at 0, the next at 10 and so on, and of these fields, each
-// with its class and its type, from 100 on.
-fn table_of(
-    alloc: Global,
-    classes: &[(&str, &str)],
-    fields: &[(&str, &str, &str)],
-) -> Result<Table, NoMemory>
-    requires classes { length classes.now ≤ 10 }
-    requires fields { length fields.now ≤ 10 }
+// Adds classes with their superclasses, the first at 0, the next at 10 and so on.
+fn add_classes(table: &mut Table, classes: &[(&str, &str)]) -> Result<(), NoMemory>
+    requires short { length classes.now ≤ 10 }
+    requires room { length (table_names table.old) + 20 < 2 ^ 32 }
+    ensures few { length (table_names table.new) ≤ length (table_names table.old) + 20 }
 {
-    let mut table = Table::new(alloc);
-    'classes: for (number, (class, parent)) in classes.iter().enumerate() {
-        add_class(&mut table, class, parent, number as u32 * 10)?;
+    for (number, (class, parent)) in classes.iter().enumerate() {
+        add_class(table, class, parent, number as u32 * 10)?;
     }
-    'fields: for (number, (class, kind, field)) in fields.iter().enumerate() {
-        add_field(&mut table, class, kind, field, 100 + number as u32 * 10)?;
+    Ok(())
+}
+
+// Adds fields, each with its class and its type, from 100 on.
+fn add_fields(table: &mut Table, fields: &[(&str, &str, &str)]) -> Result<(), NoMemory>
+    requires short { length fields.now ≤ 10 }
+    requires room { length (table_names table.old) + 20 < 2 ^ 32 }
+{
+    for (number, (class, kind, field)) in fields.iter().enumerate() {
+        add_field(table, class, kind, field, 100 + number as u32 * 10)?;
     }
-    Ok(table)
+    Ok(())
 }
 
 // The rule and the place of the least instance of the table of these classes and fields.
@@ -74,7 +78,9 @@ fn broken(
     requires classes { length classes.now ≤ 10 }
     requires fields { length fields.now ≤ 10 }
 {
-    let table = table_of(alloc, classes, fields)?;
+    let mut table = Table::new(alloc);
+    add_classes(&mut table, classes)?;
+    add_fields(&mut table, fields)?;
     match type_table(alloc, &table) {
         Ok(()) => Ok(None),
         Err(TypeError::Broken(instance)) => Ok(Some((instance.rule, instance.at))),
@@ -88,26 +94,65 @@ type Row = (
     Option<(u8, u32)>,
 );
 
+// Each table breaks this rule at this place, or none.
+fn each_breaks(rt: &impl Abort, alloc: Global, rows: &[Row]) -> Result<(), NoMemory> {
+    for (classes, fields, want) in rows {
+        assert!(rt; classes.len() <= 10);
+        assert!(rt; fields.len() <= 10);
+        let found = broken(alloc, classes, fields)?;
+        assert!(rt; found == *want, "{classes:?} {fields:?}");
+    }
+    Ok(())
+}
+
 #[test]
 fn declarations_are_judged(rt: HostRuntime) -> Result<(), Fail> {
-    let rows: [Row; 14] = [
+    let rows: [Row; 6] = [
         (&[], &[], None),
         (
             &[("A", "Object"), ("B", "A")],
             &[("A", "B", "b"), ("B", "Object", "o")],
             None,
         ),
-        // an unknown superclass, circles, a class below one, an unknown type, a hidden field
+        // an unknown superclass, an unknown type, a hidden field
         (&[("A", "Lost")], &[], Some((9, 5))),
-        (&[("A", "A")], &[], Some((10, 5))),
-        (&[("Z", "Y"), ("Y", "Z")], &[], Some((10, 5))),
-        (&[("C", "Z"), ("Z", "Y"), ("Y", "Z")], &[], Some((10, 5))),
         (&[("A", "Object")], &[("A", "Lost", "f")], Some((11, 100))),
         (
             &[("A", "Object"), ("B", "A"), ("C", "B")],
             &[("A", "A", "f"), ("B", "B", "g"), ("C", "C", "f")],
             Some((12, 125)),
         ),
+        (
+            &[("A", "Object"), ("B", "A")],
+            &[("A", "A", "f"), ("B", "A", "f"), ("B", "Lost", "g")],
+            Some((11, 120)),
+        ),
+    ];
+    each_breaks(&rt, rt.alloc(), &rows)?;
+    Ok(())
+}
+
+#[test]
+fn circles_are_found(rt: HostRuntime) -> Result<(), Fail> {
+    let rows: [Row; 5] = [
+        (&[("A", "A")], &[], Some((10, 5))),
+        (&[("Z", "Y"), ("Y", "Z")], &[], Some((10, 5))),
+        // a class below a circle
+        (&[("C", "Z"), ("Z", "Y"), ("Y", "Z")], &[], Some((10, 5))),
+        (&[("A", "A")], &[("A", "Lost", "f")], Some((10, 5))),
+        (
+            &[("A", "B"), ("B", "A")],
+            &[("A", "A", "f"), ("B", "B", "f")],
+            Some((10, 5)),
+        ),
+    ];
+    each_breaks(&rt, rt.alloc(), &rows)?;
+    Ok(())
+}
+
+#[test]
+fn the_least_declaration_is_named(rt: HostRuntime) -> Result<(), Fail> {
+    let rows: [Row; 3] = [
         // the least place of a rule, wherever its class stands among the others
         (&[("B", "Lost"), ("A", "Lost")], &[], Some((9, 5))),
         (
@@ -115,28 +160,9 @@ fn declarations_are_judged(rt: HostRuntime) -> Result<(), Fail> {
             &[("B", "Lost", "f"), ("A", "Lost", "f")],
             Some((11, 100)),
         ),
-        // the lesser rule, and the lower layer
+        // the lesser rule
         (&[("A", "A"), ("B", "Lost")], &[], Some((9, 15))),
-        (&[("A", "A")], &[("A", "Lost", "f")], Some((10, 5))),
-        (
-            &[("A", "Object"), ("B", "A")],
-            &[("A", "A", "f"), ("B", "A", "f"), ("B", "Lost", "g")],
-            Some((11, 120)),
-        ),
-        (
-            &[("A", "B"), ("B", "A")],
-            &[("A", "A", "f"), ("B", "B", "f")],
-            Some((10, 5)),
-        ),
     ];
-    for (classes, fields, want) in rows {
-        assert!(rt; classes.len() <= 10);
-        assert!(rt; fields.len() <= 10);
-        assert_eq!(rt;
-            broken(rt.alloc(), classes, fields)?,
-            want,
-            "{classes:?} {fields:?}"
-        );
-    }
+    each_breaks(&rt, rt.alloc(), &rows)?;
     Ok(())
 }
