@@ -29,10 +29,12 @@ use Rattle.ifj_table.proofs.TableLemmas.{all_at, class_at, element_is}
 use Rattle.ifj_table.proofs.MemberLemmas.{field_key, method_key}
 use Rattle.ifj_table.proofs.Inherited.{entry_held}
 use Rattle.ifj_lineages.specs.Overlays.{field_numbers, method_numbers, IsOver, Overlays}
-use Rattle.ifj_lineages.specs.Lineages.{TellsFields, TellsMethods, TellsAbove, Tells, AreLineages}
+use Rattle.ifj_lineages.specs.Lineages.{TellsFields, TellsMethods, TellsAbove, TellsClashes, Tells, AreLineages}
+use Rattle.ifj_lineages.specs.Overrides.{Turns, Clashes, TurnsAmong}
 use Rattle.ifj_lineages.specs.declared.lineages.Lineage.{Lineage}
 use Rattle.ifj_lineages.specs.declared.lineages.Lineages.{Lineages}
 use Rattle.ifj_lineages.proofs.Owners.{named_there, one_number}
+use Rattle.ifj_lineages.proofs.Clashing.{clashes_inherited, inherits_clashes, clashes_here, here_clashes}
 
 -- ---- from the superclass
 
@@ -219,6 +221,66 @@ module _ (t : Table) (distinct : AreDistinct (table_names t)) (class : ClassEntr
             λ upper. ap is_some told ∙ before.1 (from_above other upper),
           )
 
+  -- ---- signatures
+
+  pub clashes_below : (old new : List (Node (Unit {0}))) (parent root : Root) → TellsClashes t old parent (text_at t.names class.parent)
+      → ((name : ℕ) → name < 2 ^ 32 → Decides (is_some (says new root name)) (IsSome (says old parent name) ⊎ TurnsAmong t class (length class.methods.items) name))
+      → TellsClashes t new root (text_at t.names class.spot)
+  clashes_below old new parent root tells over name low small = by (get (methods_of t.names t.exprs class.methods.items) (name_text t name)) refl
+    where
+      before : Decides (is_some (says old parent name)) (Clashes (plain_table t) (text_at t.names class.parent) (name_text t name))
+      before = tells name low small
+
+      now : Decides (is_some (says new root name)) (IsSome (says old parent name) ⊎ TurnsAmong t class (length class.methods.items) name)
+      now = over name small
+
+      its : (turns : TurnsAmong t class (length class.methods.items) name)
+          → (get (methods_of t.names t.exprs class.methods.items) (name_text t name) ≡ Some (plain_method t.names t.exprs turns.method)) × (text_at t.names turns.method.spot ≡ name_text t name)
+      its turns =
+          let named : text_at t.names turns.method.spot ≡ name_text t name = ap (λ n. unwrap_or (slice_get t.names n) []) turns.named in (
+            subst (λ k. get (methods_of t.names t.exprs class.methods.items) k ≡ Some (plain_method t.names t.exprs turns.method)) named
+                (got (method_key t.names) (plain_method t.names t.exprs) class.methods.items turns.place turns.method held.rising_methods turns.stands),
+            named,
+          )
+
+      by : (o : Option calculus.MethodEntry) → get (methods_of t.names t.exprs class.methods.items) (name_text t name) ≡ o
+          → Decides (is_some (says new root name)) (Clashes (plain_table t) (text_at t.names class.spot) (name_text t name))
+      by None lacks = (λ some. said (now.0 some), λ clashes. now.1 (inl (before.1 (inherits_clashes (plain_table t) _ (name_text t name) (plain_class t.names t.exprs class) there lacks clashes))))
+        where
+          said : IsSome (says old parent name) ⊎ TurnsAmong t class (length class.methods.items) name → Clashes (plain_table t) (text_at t.names class.spot) (name_text t name)
+          said (inl some) = clashes_inherited (plain_table t) _ (name_text t name) (plain_class t.names t.exprs class) there lacks (before.0 some)
+          said (inr turns) = absurd (not_both _ (get (methods_of t.names t.exprs class.methods.items) (name_text t name)) lacks (its turns).0)
+      by (Some x) has = (λ some. clashes_here (plain_table t) _ (name_text t name) (plain_class t.names t.exprs class) there x has (said (now.0 some)), λ clashes. now.1 (says_so (here_clashes (plain_table t) _ (name_text t name) (plain_class t.names t.exprs class) there x has clashes)))
+        where
+          said : IsSome (says old parent name) ⊎ TurnsAmong t class (length class.methods.items) name → Turns (plain_table t) (text_at t.names class.parent) (name_text t name) x.signature ⊎ Clashes (plain_table t) (text_at t.names class.parent) (name_text t name)
+          said (inl some) = inr (before.0 some)
+          said (inr turns) =
+              let it = its turns in
+              let same = same_some (plain_method t.names t.exprs turns.method) x (get (methods_of t.names t.exprs class.methods.items) (name_text t name)) it.0 has in
+              inl (subst (λ (z : calculus.MethodEntry). Turns (plain_table t) (text_at t.names class.parent) (name_text t name) z.signature) same
+              (subst (λ k. Turns (plain_table t) (text_at t.names class.parent) k (plain_method t.names t.exprs turns.method).signature) it.1 turns.turns))
+
+          says_so : Turns (plain_table t) (text_at t.names class.parent) (name_text t name) x.signature ⊎ Clashes (plain_table t) (text_at t.names class.parent) (name_text t name)
+              → IsSome (says old parent name) ⊎ TurnsAmong t class (length class.methods.items) name
+          says_so (inr clashes) = inl (before.1 clashes)
+          says_so (inl turns) =
+              let at = entry_there (method_key t.names) (plain_method t.names t.exprs) class.methods.items (name_text t name) (ap is_some has) in
+              let it = element_at (method_key t.names) class.methods.items at.0 (name_text t name) at.1 in
+              let known = (all_at (IsMethodEntry t.names t.exprs) class.methods.items at.0 it.0 held.methods it.1).spot in
+              let reads : get (methods_of t.names t.exprs class.methods.items) (name_text t name) ≡ Some (plain_method t.names t.exprs it.0) =
+              subst (λ k. get (methods_of t.names t.exprs class.methods.items) k ≡ Some (plain_method t.names t.exprs it.0)) it.2
+              (got (method_key t.names) (plain_method t.names t.exprs) class.methods.items at.0 it.0 held.rising_methods it.1) in
+              let same = same_some x (plain_method t.names t.exprs it.0) (get (methods_of t.names t.exprs class.methods.items) (name_text t name)) has reads in
+              inr (record {
+                place = at.0;
+                before = slice_get_within class.methods.items at.0 it.0 it.1;
+                method = it.0;
+                stands = it.1;
+                named = one_number t.names it.0.spot.name.0 name distinct known low it.2;
+                turns = subst (λ k. Turns (plain_table t) (text_at t.names class.parent) k (plain_method t.names t.exprs it.0).signature) (sym it.2)
+                    (subst (λ (z : calculus.MethodEntry). Turns (plain_table t) (text_at t.names class.parent) (name_text t name) z.signature) same turns);
+              })
+
 -- ---- a name of no class
 
 module _ (t : Table) (class : Text) (missing : get (plain_table t) class ≡ None) where
@@ -237,12 +299,19 @@ module _ (t : Table) (class : Text) (missing : get (plain_table t) class ≡ Non
       no_step : {e : Text} → Above (plain_table t) class e → ⊥
       no_step (d, has, steps) = not_both has.entry (get (plain_table t) class) missing has.there
 
+  pub no_clashes : (nodes : List (Node (Unit {0}))) (root : Root) → ((key : ℕ) → says nodes root key ≡ None) → TellsClashes t nodes root class
+  no_clashes nodes root none name low small = (
+    λ some. absurd (false≢true (sym (ap is_some (none name)) ∙ some)),
+    λ clashes. absurd (none_there (plain_table t) (λ entry. get entry.methods (name_text t name)) class missing clashes.owner clashes.method clashes.nearest),
+  )
+
 -- ---- later versions
 
 pub record Keeping (all later : Lineages) : Type 0 where
   pub fields : Keeps all.fields later.fields
   pub methods : Keeps all.methods later.methods
   pub above : Keeps all.above later.above
+  pub clashes : Keeps all.clashes later.clashes
 
 pub tells_later : (t : Table) (all later : Lineages) (class : Text) (lineage : Lineage) → Keeping all later → Tells t all class lineage → Tells t later class lineage
 tells_later t all later class lineage keeps tells =
@@ -253,6 +322,8 @@ tells_later t all later class lineage keeps tells =
       methods = λ name low small. rw (keeps.methods.same lineage.methods tells.has_methods name) (tells.methods name low small);
       has_above = keeps.above.there lineage.above tells.has_above;
       above = λ name low small. rw (keeps.above.same lineage.above tells.has_above name) (tells.above name low small);
+      has_clashes = keeps.clashes.there lineage.clashes tells.has_clashes;
+      clashes = λ name low small. rw (keeps.clashes.same lineage.clashes tells.has_clashes name) (tells.clashes name low small);
     }
 
 pub lineages_later : (t : Table) (all later : Lineages) → Keeping all later → later.lineages.items ≡ all.lineages.items → AreLineages t all → AreLineages t later

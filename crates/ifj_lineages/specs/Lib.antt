@@ -1,2 +1,4 @@
+pub mod Owned
+pub mod Overrides
 pub mod Overlays
 pub mod Lineages

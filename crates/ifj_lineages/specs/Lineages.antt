@@ -11,6 +11,7 @@ use Rattle.ifj_table.specs.Tables.{plain_table, table_names, table_classes, name
 use Rattle.ifj_table.specs.declared.entry.ClassEntry.{ClassEntry}
 use Rattle.ifj_table.specs.declared.lookups.Found.{Found}
 use Rattle.ifj_table.specs.declared.table.Table.{Table}
+use Rattle.ifj_lineages.specs.Overrides.{Clashes}
 use Rattle.ifj_lineages.specs.declared.lineages.Lineage.{Lineage}
 use Rattle.ifj_lineages.specs.declared.lineages.Lineages.{Lineages}
 
@@ -28,7 +29,12 @@ abbrev pub TellsAbove : Table → List (Node (Unit {0})) → Root → Text → T
 TellsAbove t nodes root class = (name : ℕ) → name < length (table_names t) → name < 2 ^ 32
     → Decides (is_some (says nodes root name)) (Above (plain_table t) class (name_text t name))
 
--- the three versions of a class
+-- a version has the names of which the class has methods with more than one signature, inherited ones among them
+abbrev pub TellsClashes : Table → List (Node (Unit {0})) → Root → Text → Type 0
+TellsClashes t nodes root class = (name : ℕ) → name < length (table_names t) → name < 2 ^ 32
+    → Decides (is_some (says nodes root name)) (Clashes (plain_table t) class (name_text t name))
+
+-- the four versions of a class
 pub record Tells (t : Table) (all : Lineages) (class : Text) (lineage : Lineage) : Type 0 where
   pub has_fields : IsVersion all.fields lineage.fields
   pub fields : TellsFields t all.fields lineage.fields class
@@ -36,6 +42,8 @@ pub record Tells (t : Table) (all : Lineages) (class : Text) (lineage : Lineage)
   pub methods : TellsMethods t all.methods lineage.methods class
   pub has_above : IsVersion all.above lineage.above
   pub above : TellsAbove t all.above lineage.above class
+  pub has_clashes : IsVersion all.clashes lineage.clashes
+  pub clashes : TellsClashes t all.clashes lineage.clashes class
 
 -- each lineage is that of its class, by the number of the class
 pub record AreLineages (t : Table) (all : Lineages) : Type 0 where

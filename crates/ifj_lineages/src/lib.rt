@@ -3,7 +3,13 @@
 #![tactic(auto)]
 
 mod chains;
+mod clashes;
 mod lineages;
 mod members;
+mod owned;
+mod signatures;
 
+pub use clashes::turns;
 pub use lineages::Lineages;
+pub use owned::{Owned, owned_method};
+pub use signatures::same_signature;

@@ -2,18 +2,21 @@
 ghost use Rattle.std.specs.Prelude.{◌≡◌};
 
 use crate::chains::go_up;
+use crate::clashes::{put_names, turning_names};
 use crate::members::{put_fields, put_methods};
 use dj_names::{Name, names_are_distinct};
 use ifj_table::{ClassEntry, Found, Table};
 use persistent_trie::{Root, Trie};
 use std::alloc::{AllocError as NoMemory, Global};
 
-/// The versions that tell of one class: of its fields, of its methods, and of the classes above it.
+/// The versions that tell of one class: of its fields, of its methods, of the classes above it, and of
+/// the names whose methods have more than one signature.
 #[derive(Clone, Copy)]
 pub(crate) struct Lineage {
     pub(crate) fields: Root,
     pub(crate) methods: Root,
     pub(crate) above: Root,
+    pub(crate) clashes: Root,
 }
 
 /// What is in force for each class of a table, by the numbers of names: the fields and the methods that it has or
@@ -24,6 +27,7 @@ pub struct Lineages {
     pub(crate) fields: Trie<Found>,
     pub(crate) methods: Trie<Found>,
     pub(crate) above: Trie<()>,
+    pub(crate) clashes: Trie<()>,
     // By the numbers of the classes.
     pub(crate) lineages: Vec<Option<Lineage>>,
 }
@@ -36,6 +40,7 @@ impl Lineages {
     ghost use Rattle.ifj_table.specs.Tables.{plain_table, table_names, table_nodes, table_classes, name_text};
     ghost use Rattle.ifj_table.specs.Lookups.{IsFoundField, IsFoundMethod, HasNoField, HasNoMethod, IsClassNamed};
     ghost use Rattle.ifj_lineages.specs.Lineages.{Tells, AreLineages};
+    ghost use Rattle.ifj_lineages.specs.Overrides.{Clashes};
 
     /// The lineages of the classes of a table, each put on that of its superclass. It takes as many steps as there are
     /// classes and members, each as many as a number has bits. The one error is want of memory.
@@ -61,6 +66,7 @@ impl Lineages {
             fields: Trie::new(alloc)?,
             methods: Trie::new(alloc)?,
             above: Trie::new(alloc)?,
+            clashes: Trie::new(alloc)?,
             lineages,
         })
     }
@@ -108,13 +114,16 @@ impl Lineages {
         ensures lineage { IfOk result (Tells table.now self.new (text_at (table_names table.now) class.now.spot)) }
     {
         names_are_distinct(table.names());
+        let turning = turning_names(*self.lineages.allocator(), table, self, class)?;
         let fields = put_fields(&mut self.fields, parent.fields, class)?;
         let methods = put_methods(&mut self.methods, parent.methods, class)?;
         let above = self.above.insert(parent.above, class.parent.name.0, ())?;
+        let clashes = put_names(&mut self.clashes, parent.clashes, turning.as_slice())?;
         Ok(Lineage {
             fields,
             methods,
             above,
+            clashes,
         })
     }
 
@@ -130,6 +139,7 @@ impl Lineages {
                 fields: self.fields.empty(),
                 methods: self.methods.empty(),
                 above: self.above.empty(),
+                clashes: self.clashes.empty(),
             }),
         }
     }
@@ -179,6 +189,20 @@ impl Lineages {
         match self.lineage(table, lower) {
             Some(lineage) => self.above.get(lineage.above, upper.0).is_some(),
             None => table.is_subclass(lower, upper),
+        }
+    }
+
+    /// Whether the method of this name that a class has or inherits has another signature than one above it. None where the
+    /// class has no lineage. It takes no memory.
+    pub fn clashes(&self, table: &Table, class: Name, method: Name) -> Option<bool>
+        requires lineages { AreLineages table.now self.now }
+        requires class { class.0 < length (table_names table.now) }
+        requires method { method.0 < length (table_names table.now) }
+        ensures { IfSome result (λ clashes. Decides clashes (Clashes (plain_table table.now) (name_text table.now class.0) (name_text table.now method.0))) }
+    {
+        match self.lineage(table, class) {
+            Some(lineage) => Some(self.clashes.get(lineage.clashes, method.0).is_some()),
+            None => None,
         }
     }
 }

@@ -9,7 +9,6 @@ pub mod Walked
 pub mod BodyFaults
 pub mod Stating
 pub mod Walking
-pub mod Overriding
 pub mod Entries
 pub mod RulesStand
 pub mod RuleCases

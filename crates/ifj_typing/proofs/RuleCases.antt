@@ -23,9 +23,10 @@ use Rattle.ifj_table.specs.declared.table.Table.{Table}
 use Rattle.ifj_table.proofs.MemberLemmas.{some_value}
 use Rattle.ifj_table.proofs.TableLemmas.{class_key}
 use Rattle.ifj_typing.specs.Bodies.{BreaksBody, BodyRule, within, returned, BreaksBodies}
-use Rattle.ifj_typing.specs.Declarations.{UnknownInSignature, BreaksDeclaration, BreaksDeclarations, Differs, BreaksMembers, BreaksInheritance}
+use Rattle.ifj_typing.specs.Declarations.{UnknownInSignature, BreaksDeclaration, BreaksDeclarations, BreaksMembers, BreaksInheritance}
 use Rattle.ifj_typing.proofs.Entries.{Entry, class_from, field_from, method_from}
-use Rattle.ifj_typing.proofs.Overriding.{has_nearest}
+use Rattle.ifj_lineages.specs.Overrides.{Differs}
+use Rattle.ifj_lineages.proofs.Overriding.{has_nearest}
 
 -- an instance of one of the layers
 pub data Case (t : Table) (i : Instance) : Type 0 where

@@ -25,7 +25,7 @@ use Rattle.ifj_table.proofs.TableLemmas.{class_key}
 use Rattle.ifj_typing.specs.Bodies.{BodyRule, within, returned, body_home, body_value, BreaksBodyOf, BreaksBodies}
 use Rattle.ifj_typing.specs.Declarations.{Stated, UnknownSuperclass, CircularSuperclasses, UnknownType, UnknownFieldType, UnknownInSignature, BreaksDeclaration, BreaksDeclarations, HiddenField, OverrideDiffers, BreaksMembers, BreaksInheritance}
 use Rattle.ifj_typing.proofs.Entries.{class_there, field_there, method_there}
-use Rattle.ifj_typing.proofs.Overriding.{nearest_reached}
+use Rattle.ifj_lineages.proofs.Overriding.{nearest_reached}
 
 node_layer : (t : calculus.Table) (home : Home) (e : Expr) (r p : ℕ) → NodeRule t home e r p → layer r ≡ 5
 node_layer t home e r p (unknown_variable nothing) = refl

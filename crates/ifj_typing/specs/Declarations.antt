@@ -1,12 +1,8 @@
 -- The rules of layers 3 and 4, in the entries of a table: superclasses and types, hidden fields and overrides.
-use Rattle.std.specs.Prelude.{◌≡◌, ◌⊎◌, ℕ, List, length, Some, IsFalse}
-use Rattle.std.specs.FinMap.{get}
-use Rattle.dj_names.specs.Texts.{Text}
+use Rattle.std.specs.Prelude.{◌≡◌, ◌⊎◌, ℕ, List, length}
 use Rattle.dj_tree.specs.declared.declarations.Spot.{Spot}
 use Rattle.dj_tree.specs.declared.source.Instance.{Instance}
-use Rattle.dj_calculus.specs.Tables as calculus
-use Rattle.dj_calculus.specs.Entries.{same_signature}
-use Rattle.dj_calculus.specs.Subclasses.{Exists, Steps}
+use Rattle.dj_calculus.specs.Subclasses.{Exists}
 use Rattle.dj_calculus.specs.BodyRules.{HasField}
 use Rattle.dj_calculus.specs.TableRules.{IsEndless}
 use Rattle.ifj_table.specs.Tables.{plain_table, table_names, table_classes}
@@ -15,6 +11,7 @@ use Rattle.ifj_table.specs.declared.entry.FieldEntry.{FieldEntry}
 use Rattle.ifj_table.specs.declared.entry.MethodEntry.{MethodEntry}
 use Rattle.ifj_table.specs.declared.entry.ClassEntry.{ClassEntry}
 use Rattle.ifj_table.specs.declared.table.Table.{Table}
+use Rattle.ifj_lineages.specs.Overrides.{Differs}
 use Rattle.ifj_typing.specs.Least.{Before, OfElement}
 
 -- the instance of this rule at this place, where P holds
@@ -66,16 +63,6 @@ BreaksDeclarations t = Before (OfElement (BreaksDeclaration t) (table_classes t)
 
 abbrev pub HiddenField : Table → ClassEntry → FieldEntry → Instance → Type 0
 HiddenField t class field = Stated 12 field.spot.at (HasField (plain_table t) (text_at (table_names t) class.parent) (text_at (table_names t) field.spot))
-
--- this class or one above it has the method with another signature
-pub record Differs (t : calculus.Table) (class m : Text) (signature : calculus.Signature) : Type 0 where
-  pub upper : Text
-  pub entry : calculus.ClassEntry
-  pub other : calculus.MethodEntry
-  pub steps : Steps t class upper
-  pub there : get t upper ≡ Some entry
-  pub its : get entry.methods m ≡ Some other
-  pub differs : IsFalse (same_signature signature other.signature)
 
 abbrev pub OverrideDiffers : Table → ClassEntry → MethodEntry → Instance → Type 0
 OverrideDiffers t class method =

@@ -6,7 +6,6 @@ pub mod Scopes
 pub mod Bodies
 pub mod Declarations
 pub mod Chains
-pub mod Owned
 pub mod Broken
 pub mod Parameters
 pub mod Codes

@@ -1,22 +1,21 @@
 //! Fields that hide others, and methods that override others with another signature.
-ghost use Rattle.std.specs.Prelude.{◌≡◌, ◌<◌, All, map, length, Decides};
-ghost use Rattle.dj_tree.specs.Plain.{plain_spot};
+ghost use Rattle.std.specs.Prelude.{◌≡◌, ◌<◌, length, Decides};
 ghost use Rattle.dj_tree.specs.WellFormed.{IsKnown};
-ghost use Rattle.dj_calculus.specs.Entries.{same_types as are_same_types, same_signature as is_same_signature};
 ghost use Rattle.ifj_table.specs.Tables.{plain_table, table_names, table_nodes};
 ghost use Rattle.ifj_table.specs.Entries.{text_at, plain_signature};
-ghost use Rattle.ifj_table.specs.Held.{IsFieldEntry, IsMethodEntry, IsClassEntry};
+ghost use Rattle.ifj_table.specs.Held.{IsMethodEntry, IsClassEntry};
 ghost use Rattle.ifj_lineages.specs.Lineages.{AreLineages};
-ghost use Rattle.ifj_typing.specs.Declarations.{HiddenField, Differs, OverrideDiffers, HiddenFields, OverridesDiffer, BreaksMembers, BreaksInheritance};
+ghost use Rattle.ifj_lineages.specs.Overrides.{Differs};
+ghost use Rattle.ifj_typing.specs.Declarations.{HiddenField, OverrideDiffers, HiddenFields, OverridesDiffer, BreaksMembers, BreaksInheritance};
 ghost use Rattle.ifj_typing.specs.Kinds.{text_of};
 ghost use Rattle.ifj_typing.specs.Least.{IsLeastOf};
 
 use crate::kind::instance;
 use crate::least::lesser;
-use crate::lookups::{field_type, owned_method};
-use dj_names::{Name, Names};
-use dj_tree::{Instance, Spot};
-use ifj_lineages::Lineages;
+use crate::lookups::field_type;
+use dj_names::Name;
+use dj_tree::Instance;
+use ifj_lineages::{Lineages, owned_method, same_signature, turns};
 use ifj_table::{ClassEntry, FieldEntry, MethodEntry, Table};
 
 // A field whose name a class above has for a field too.
@@ -37,43 +36,8 @@ fn hidden_fault(
     }
 }
 
-// Whether two lists of types are the same, wherever they stand.
-fn same_types(names: &Names, one: &[Spot], other: &[Spot]) -> bool
-    requires one { All (IsKnown names.now) one.now }
-    requires other { All (IsKnown names.now) other.now }
-    ensures { result ≡ are_same_types (map (plain_spot names.now) one.now) (map (plain_spot names.now) other.now) }
-{
-    if one.len() != other.len() {
-        return false;
-    }
-    for (number, spot) in one.iter().enumerate() {
-        if names.text(spot.name) != names.text(other[number].name) {
-            return false;
-        }
-    }
-    true
-}
-
-// Whether two methods of the table have one signature.
-fn same_signature(table: &Table, one: &MethodEntry, other: &MethodEntry) -> bool
-    requires one { IsMethodEntry (table_names table.now) (table_nodes table.now) one.now }
-    requires other { IsMethodEntry (table_names table.now) (table_nodes table.now) other.now }
-    ensures { result ≡ is_same_signature (plain_signature (table_names table.now) one.now) (plain_signature (table_names table.now) other.now) }
-{
-    let names = table.names();
-    if same_types(
-        names,
-        one.parameters.as_slice(),
-        other.parameters.as_slice(),
-    ) {
-        names.text(one.result.name) == names.text(other.result.name)
-    } else {
-        false
-    }
-}
-
-// Whether a class, or one above it, has the method with another signature.
-fn differs_from(table: &Table, lineages: &Lineages, class: Name, method: &MethodEntry) -> bool
+// Whether a class, or one above it, has the method with another signature. It goes up the chain.
+fn finds_other(table: &Table, lineages: &Lineages, class: Name, method: &MethodEntry) -> bool
     requires lineages { AreLineages table.now lineages.now }
     requires class { class.0 < length (table_names table.now) }
     requires method { IsMethodEntry (table_names table.now) (table_nodes table.now) method.now }
@@ -92,6 +56,24 @@ fn differs_from(table: &Table, lineages: &Lineages, class: Name, method: &Method
         at = owned.class.parent.name;
     }
     false
+}
+
+// Whether a class, or one above it, has the method with another signature. It goes up only where the class has no
+// lineage.
+fn differs_from(table: &Table, lineages: &Lineages, class: Name, method: &MethodEntry) -> bool
+    requires lineages { AreLineages table.now lineages.now }
+    requires class { class.0 < length (table_names table.now) }
+    requires method { IsMethodEntry (table_names table.now) (table_nodes table.now) method.now }
+    ensures { Decides result (Differs (plain_table table.now) (text_of (table_names table.now) class) (text_at (table_names table.now) method.now.spot)
+        (plain_signature (table_names table.now) method.now)) }
+{
+    if turns(table, lineages, class, method) {
+        return true;
+    }
+    match lineages.clashes(table, class, method.spot.name) {
+        Some(clashes) => clashes,
+        None => finds_other(table, lineages, class, method),
+    }
 }
 
 // A method that a class above has with another signature.

@@ -6,15 +6,13 @@ ghost use Rattle.dj_calculus.specs.BodyRules.{HasField, HasMethod};
 ghost use Rattle.ifj_table.specs.Tables.{plain_table, table_names, table_nodes};
 ghost use Rattle.ifj_table.specs.Entries.{plain_signature};
 ghost use Rattle.ifj_table.specs.Held.{IsMethodEntry};
-ghost use Rattle.ifj_table.specs.Lookups.{HasNoMethod};
 ghost use Rattle.ifj_lineages.specs.Lineages.{AreLineages};
-ghost use Rattle.ifj_typing.specs.Owned.{IsOwned};
 ghost use Rattle.ifj_typing.specs.Kinds.{text_of, plain_kind, IsKnownKind};
 
 use crate::kind::Kind;
 use dj_names::Name;
-use ifj_lineages::Lineages;
-use ifj_table::{ClassEntry, MethodEntry, Table};
+use ifj_lineages::{Lineages, owned_method};
+use ifj_table::{MethodEntry, Table};
 
 /// Whether a class exists: it is in the table, or is `Object`.
 pub fn exists(table: &Table, class: Name) -> bool
@@ -75,41 +73,6 @@ pub fn field_type(table: &Table, lineages: &Lineages, class: Name, field: Name) 
         None => return None,
     };
     Some(owner.fields[found.place].kind.name)
-}
-
-/// A method with the class that has it.
-#[derive(Drop)]
-pub struct Owned<'a> {
-    pub class: &'a ClassEntry,
-    pub method: &'a MethodEntry,
-}
-
-/// The method of this name that a class has or inherits, and the class that has it.
-pub fn owned_method<'a>(
-    table: &'a Table,
-    lineages: &Lineages,
-    class: Name,
-    method: Name,
-) -> Option<Owned<'a>>
-    requires lineages { AreLineages table.now lineages.now }
-    requires class { class.0 < length (table_names table.now) }
-    requires method { method.0 < length (table_names table.now) }
-    ensures { MatchOption result
-        (HasNoMethod table.now (text_of (table_names table.now) class) (text_of (table_names table.now) method))
-        (λ owned. IsOwned table.now (text_of (table_names table.now) class) (text_of (table_names table.now) method) owned.class.now owned.method.now) }
-{
-    let found = match lineages.find_method(table, class, method) {
-        Some(found) => found,
-        None => return None,
-    };
-    let owner = match table.class_of(found.owner) {
-        Some(owner) => owner,
-        None => return None,
-    };
-    Some(Owned {
-        class: owner,
-        method: &owner.methods[found.place],
-    })
 }
 
 /// The method of this name that a class has or inherits.

@@ -3,7 +3,8 @@ use Rattle.std.proofs.lemmas.Option.{slice_get_within}
 use Rattle.ifj_table.specs.Tables.{table_names}
 use Rattle.ifj_table.proofs.TableLemmas.{element_is}
 use Rattle.ifj_typing.specs.Kinds.{text_of}
-use Rattle.ifj_typing.proofs.Owners.{not_missing, field_stands, its_field_type, no_field_type, field_held}
+use Rattle.ifj_lineages.proofs.Owners.{not_missing, field_stands, field_held}
+use Rattle.ifj_typing.proofs.Owners.{its_field_type, no_field_type}
 use Rattle.ifj_typing.proofs.lookups.field_type.Goals as goal
 
 pub returns-in-None-clause-found : goal.returns-in-None-clause-found

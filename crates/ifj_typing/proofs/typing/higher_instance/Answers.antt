@@ -1,10 +1,8 @@
-use Rattle.std.proofs.Common.{Option, subst}
+use Rattle.std.proofs.Common.{Option}
 use Rattle.std.specs.Prelude.{IfOk}
 use Rattle.std.specs.declared.result.Result.{Result}
 use Rattle.std.specs.declared.result.Result.TheVariants.{Ok, Err}
 use Rattle.dj_tree.specs.declared.source.Instance.{Instance}
-use Rattle.ifj_typing.specs.Declarations.{BreaksDeclarations}
-use Rattle.ifj_typing.specs.Least.{IsLeastOf}
 use Rattle.ifj_typing.proofs.Layers.{least_fourth, by_bodies}
 use Rattle.ifj_typing.proofs.typing.higher_instance.Goals as goal
 

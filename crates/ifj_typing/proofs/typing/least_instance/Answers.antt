@@ -1,8 +1,4 @@
-use Rattle.std.proofs.Common.{Option, subst}
-use Rattle.std.specs.Prelude.{IfOk}
-use Rattle.std.specs.declared.result.Result.{Result}
-use Rattle.std.specs.declared.result.Result.TheVariants.{Ok, Err}
-use Rattle.dj_tree.specs.declared.source.Instance.{Instance}
+use Rattle.std.proofs.Common.{subst}
 use Rattle.ifj_typing.specs.Declarations.{BreaksDeclarations}
 use Rattle.ifj_typing.specs.Least.{IsLeastOf}
 use Rattle.ifj_typing.proofs.Layers.{least_third}

@@ -1,5 +1,5 @@
 use Rattle.ifj_table.specs.Tables.{name_text}
-use Rattle.ifj_lineages.proofs.Telling.{lineage_at, no_fields, no_methods, none_above}
+use Rattle.ifj_lineages.proofs.Telling.{lineage_at, no_fields, no_methods, none_above, no_clashes}
 use Rattle.ifj_lineages.proofs.lineages.Lineages.lineage.Goals as goal
 
 pub returns-in-Some : goal.returns-in-Some
@@ -17,4 +17,6 @@ returns-in-None c =
       methods = no_methods t class c.in-None.ensures all.methods c.empty-in-None.result c.empty-in-None.ensures.says;
       has_above = c.empty-in-None-2.ensures.version;
       above = none_above t class c.in-None.ensures all.above c.empty-in-None-2.result c.empty-in-None-2.ensures.says;
+      has_clashes = c.empty-in-None-3.ensures.version;
+      clashes = no_clashes t class c.in-None.ensures all.clashes c.empty-in-None-3.result c.empty-in-None-3.ensures.says;
     }

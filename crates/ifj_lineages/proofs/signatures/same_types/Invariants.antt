@@ -1,7 +1,7 @@
 use Rattle.std.proofs.Common.{◌≡◌, ◌<◌, ℕ, Some, slice_get, map}
 use Rattle.dj_tree.specs.Plain.{plain_spot}
 use Rattle.dj_tree.specs.Trees as plain
-use Rattle.ifj_typing.proofs.inheritance.same_types.Given as goal
+use Rattle.ifj_lineages.proofs.signatures.same_types.Given as goal
 
 abbrev pub invariant-loop-number : goal.invariant-loop-number
 invariant-loop-number l =

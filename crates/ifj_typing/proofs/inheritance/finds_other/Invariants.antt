@@ -3,8 +3,8 @@ use Rattle.ifj_table.specs.Entries.{text_at, plain_signature}
 use Rattle.ifj_table.specs.Tables.{plain_table, table_names}
 use Rattle.ifj_table.proofs.Climbing.{Climbed}
 use Rattle.ifj_typing.specs.Kinds.{text_of}
-use Rattle.ifj_typing.proofs.Overriding.{differing}
-use Rattle.ifj_typing.proofs.inheritance.differs_from.Given as goal
+use Rattle.ifj_lineages.proofs.Overriding.{differing}
+use Rattle.ifj_typing.proofs.inheritance.finds_other.Given as goal
 
 abbrev pub invariant-up : goal.invariant-up
 invariant-up l =

@@ -4,8 +4,8 @@ use Rattle.dj_calculus.proofs.Counting.{earlier_or_last}
 use Rattle.dj_calculus.proofs.Members.{either, same_some}
 use Rattle.dj_tree.specs.Plain.{plain_spot}
 use Rattle.dj_tree.specs.Trees as plain
-use Rattle.ifj_typing.proofs.Overriding.{types_agree, types_differ, other_count, told_apart, told_same, spelled}
-use Rattle.ifj_typing.proofs.inheritance.same_types.Goals as goal
+use Rattle.ifj_lineages.proofs.Overriding.{types_agree, types_differ, other_count, told_apart, told_same, spelled}
+use Rattle.ifj_lineages.proofs.signatures.same_types.Goals as goal
 
 same_texts : {a b : Option plain.Spot} (v w x y : plain.Spot) → a ≡ Some v → b ≡ Some w → a ≡ Some x → b ≡ Some y → v.text ≡ w.text → x.text ≡ y.text
 same_texts {a = a} {b = b} v w x y p q r s same = sym (ap (λ z. z.text) (same_some v x a p r)) ∙ same ∙ ap (λ z. z.text) (same_some w y b q s)

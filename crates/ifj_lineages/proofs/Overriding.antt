@@ -17,7 +17,7 @@ use Rattle.dj_calculus.specs.Subclasses.{Steps, stay, up, Nearest, own, inherite
 use Rattle.dj_calculus.specs.Tables.{Signature, MethodEntry, ClassEntry, Table}
 use Rattle.dj_calculus.proofs.Members.{same_some}
 use Rattle.ifj_table.proofs.Climbing.{NearestIn, at_own, one_up, counted, Climbed, climbed_more, none_at_all}
-use Rattle.ifj_typing.specs.Declarations.{Differs}
+use Rattle.ifj_lineages.specs.Overrides.{Differs}
 
 -- ---- the nearest above
 
