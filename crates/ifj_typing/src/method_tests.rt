@@ -8,7 +8,7 @@ ghost use Rattle.ifj_table.specs.Tables.{plain_table, table_names, table_nodes};
 ghost use Rattle.ifj_table.specs.Lookups.{own_method};
 ghost use Rattle.ifj_typing.specs.Codes.{IsCode};
 
-use super::tests::{add_class, add_field};
+use super::tests::{add_class, add_field, answer};
 use super::*;
 use Step::{Assign, Call, Cast, Field, New, Null, Original, This, Variable};
 use arena_walk::{Arena, NodeId, Shape};
@@ -212,11 +212,7 @@ fn broken(alloc: Global, first: Row, second: Option<Row>) -> Result<Option<(u8, 
     if let Some(second) = second {
         add_row(alloc, &mut table, second, 250)?;
     }
-    match type_table(alloc, &table) {
-        Ok(()) => Ok(None),
-        Err(TypeError::Broken(instance)) => Ok(Some((instance.rule, instance.at))),
-        Err(TypeError::NoMemory) => Err(NoMemory),
-    }
+    answer(type_table(alloc, &table))
 }
 
 // A method of A, with its result type and its body, and the rule that it breaks at a place, or none.
@@ -363,5 +359,58 @@ fn methods_are_judged(rt: HostRuntime) -> Result<(), Fail> {
         ("B", "E", "m", &[This], Some((13, 251))),
     ];
     each_second_breaks(&rt, rt.alloc(), &rows)?;
+    Ok(())
+}
+
+// The table of A, B below A and D below B, in which these classes have a method m that gives null, with these result
+// types. The first stands at 200 and each other 50 behind the one before.
+fn overriding(alloc: Global, methods: &[(&'static str, &'static str)]) -> Result<Table, NoMemory>
+    requires { length methods.now ≤ 3 }
+{
+    let mut table = Table::new(alloc);
+    add_class(&mut table, "A", "Object", 0)?;
+    add_class(&mut table, "B", "A", 10)?;
+    add_class(&mut table, "D", "B", 20)?;
+    for (number, (class, result)) in methods.iter().enumerate() {
+        let row = Row {
+            class,
+            result,
+            name: "m",
+            parameter: None,
+            steps: &[Null],
+        };
+        add_row(alloc, &mut table, row, 200 + number as u32 * 50)?;
+    }
+    Ok(table)
+}
+
+type Overrides = (&'static [(&'static str, &'static str)], Option<(u8, u32)>);
+
+// With each such methods the table breaks this rule at this place, or none.
+fn each_overriding_breaks(
+    rt: &impl Abort,
+    alloc: Global,
+    rows: &[Overrides],
+) -> Result<(), NoMemory> {
+    for (methods, want) in rows {
+        assert!(rt; methods.len() <= 3);
+        let table = overriding(alloc, methods)?;
+        let found = answer(type_table(alloc, &table))?;
+        assert!(rt; found == *want, "{methods:?}");
+    }
+    Ok(())
+}
+
+#[test]
+fn overrides_are_compared_with_all_above(rt: HostRuntime) -> Result<(), Fail> {
+    let rows: [Overrides; 5] = [
+        (&[("A", "A"), ("B", "A"), ("D", "A")], None),
+        (&[("B", "A"), ("D", "A")], None),
+        (&[("A", "A"), ("D", "B")], Some((13, 251))),
+        // the nearest above has the same signature, and one above that another
+        (&[("D", "B"), ("B", "B"), ("A", "A")], Some((13, 201))),
+        (&[("B", "B"), ("D", "B"), ("A", "A")], Some((13, 201))),
+    ];
+    each_overriding_breaks(&rt, rt.alloc(), &rows)?;
     Ok(())
 }

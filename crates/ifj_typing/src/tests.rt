@@ -69,6 +69,15 @@ fn add_fields(table: &mut Table, fields: &[(&str, &str, &str)]) -> Result<(), No
     Ok(())
 }
 
+// The rule and the place of the instance that an answer names.
+pub fn answer(typed: Result<(), TypeError>) -> Result<Option<(u8, u32)>, NoMemory> {
+    match typed {
+        Ok(()) => Ok(None),
+        Err(TypeError::Broken(instance)) => Ok(Some((instance.rule, instance.at))),
+        Err(TypeError::NoMemory) => Err(NoMemory),
+    }
+}
+
 // The rule and the place of the least instance of the table of these classes and fields.
 fn broken(
     alloc: Global,
@@ -81,11 +90,7 @@ fn broken(
     let mut table = Table::new(alloc);
     add_classes(&mut table, classes)?;
     add_fields(&mut table, fields)?;
-    match type_table(alloc, &table) {
-        Ok(()) => Ok(None),
-        Err(TypeError::Broken(instance)) => Ok(Some((instance.rule, instance.at))),
-        Err(TypeError::NoMemory) => Err(NoMemory),
-    }
+    answer(type_table(alloc, &table))
 }
 
 type Row = (
