@@ -251,12 +251,13 @@ fn bodies_are_well_typed(rt: HostRuntime) -> Result<(), Fail> {
 
 #[test]
 fn names_of_bodies_are_found(rt: HostRuntime) -> Result<(), Fail> {
-    let rows: [OfA; 6] = [
+    let rows: [OfA; 7] = [
         ("Lost", &[This], Some((11, 200))),
         ("A", &[Variable("x")], Some((14, 210))),
         ("A", &[New("Lost")], Some((15, 210))),
         ("A", &[This, Cast("Lost")], Some((15, 211))),
         ("A", &[This, Field("g")], Some((16, 211))),
+        ("A", &[New("Object"), Field("f")], Some((16, 211))),
         ("A", &[This, Call("k", 0)], Some((17, 211))),
     ];
     each_breaks(&rt, rt.alloc(), &rows)?;
@@ -306,6 +307,41 @@ fn the_least_within_a_body_is_named(rt: HostRuntime) -> Result<(), Fail> {
         ("Lost", &[Null, Field("f")], Some((11, 200))),
     ];
     each_breaks(&rt, rt.alloc(), &rows)?;
+    Ok(())
+}
+
+// With each such body, A's method m, which takes an A that is named as a field and gives an A, breaks this rule at this
+// place, or none.
+fn each_redeclared_breaks(
+    rt: &impl Abort,
+    alloc: Global,
+    rows: &[(&'static [Step], Option<(u8, u32)>)],
+) -> Result<(), NoMemory> {
+    for (steps, want) in rows {
+        let row = Row {
+            class: "A",
+            result: "A",
+            name: "m",
+            parameter: Some(("A", "f")),
+            steps,
+        };
+        let found = broken(alloc, row, None)?;
+        assert!(rt; found == *want, "{row:?}");
+    }
+    Ok(())
+}
+
+#[test]
+fn calls_of_original_are_judged(rt: HostRuntime) -> Result<(), Fail> {
+    let rows: [(&[Step], Option<(u8, u32)>); 5] = [
+        (&[Variable("f"), Original(1)], None),
+        (&[Original(0)], Some((18, 210))),
+        (&[New("E"), Original(1)], Some((19, 210))),
+        (&[New("E"), Variable("f"), Original(2)], Some((18, 212))),
+        // the field of the name isn't the parameter
+        (&[This, Field("f"), Original(1)], None),
+    ];
+    each_redeclared_breaks(&rt, rt.alloc(), &rows)?;
     Ok(())
 }
 
