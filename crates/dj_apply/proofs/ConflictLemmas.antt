@@ -1,15 +1,22 @@
 -- Conflicts of the active deltas of a part, with one delta more behind the others, and of the parts of a chain.
-use Rattle.std.proofs.Common.{◌≡◌, ◌⊎◌, inl, inr, ℕ, zero, suc, ◌+◌, ◌<◌, ◌≤◌, Bool, true, false, cond, List, [], ◌∷◌, ◌++◌, length, take, filter, slice_get, get_or, Option, None, Some, refl, sym, ap, ◌∙◌, subst, arith}
+use Rattle.std.proofs.Common.{◌≡◌, ◌⊎◌, inl, inr, ℕ, zero, suc, ◌+◌, ◌<◌, ◌≤◌, Bool, true, false, cond, List, [], ◌∷◌, ◌++◌, length, map, take, filter, slice_get, get_or, Option, None, Some, refl, sym, ap, ◌∙◌, subst, arith}
 use Rattle.std.specs.List.{flat_map, cons_option}
-use Rattle.std.proofs.lemmas.List.{append-nil, take_more, take_all}
+use Rattle.std.proofs.lemmas.List.{append-nil, append_assoc, map-append, take_more, take_all}
 use Rattle.std.proofs.lemmas.List.Elements.{filter-append, filter_map-append}
-use Rattle.std.proofs.lemmas.Option.{slice_get_within, slice_get-map}
+use Rattle.std.proofs.lemmas.Grind.{flat_map-append}
+use Rattle.std.proofs.lemmas.Option.{slice_get_within, slice_get-map, get_or_from_slice_get}
 use Rattle.arena_walk.proofs.ForestLemmas.{slice_get-append, slice_get-push}
+use Rattle.dj_names.specs.Texts.{Text}
 use Rattle.dj_tree.specs.Trees.{Delta, Operation, Part, Source}
+use Rattle.dj_tree.specs.Plain.{plain_operation}
+use Rattle.dj_tree.specs.declared.expression.ExprNode.{ExprNode}
+use Rattle.dj_tree.specs.declared.declarations.ClassOp.{ClassOp}
 use Rattle.dj_calculus.specs.Accepted.{IsAccepted}
 use Rattle.dj_calculus.specs.Configurations.{Configuration}
 use Rattle.dj_calculus.specs.Conflicts.{ConflictAt}
 use Rattle.dj_calculus.specs.Parts.{chain, active}
+use Rattle.dj_calculus.specs.Things as calculus
+use Rattle.dj_calculus.specs.Things.{touched_by}
 use Rattle.dj_calculus.proofs.Counting.{got_within, number_in}
 use Rattle.dj_calculus.proofs.Members.{either, from_flat, mapped, no_element, within_flat}
 use Rattle.dj_line.specs.Orders.{plain_order, is_active}
@@ -20,7 +27,7 @@ use Rattle.dj_product_laws.specs.LeastPairs.{IsLeastPair}
 use Rattle.dj_product_laws.proofs.OverlapProofs.{delta_by_delta, part_by_part}
 use Rattle.dj_apply.specs.ActiveOperations.{active_deltas, active_operations}
 use Rattle.dj_apply.specs.Least.{IsLeastBy, IsEarlierOf, Among}
-use Rattle.dj_apply.specs.Overlaps.{IsNoLater, OperationsClash, DeltasClash, PartClash}
+use Rattle.dj_apply.specs.Overlaps.{IsNoLater, ThingsClash, OperationsClash, DeltasClash, PartClash}
 use Rattle.dj_apply.specs.declared.overlaps.Thing.{Thing}
 use Rattle.dj_apply.proofs.LeastLemmas.{least_same, least_either}
 use Rattle.dj_apply.proofs.OverlapLemmas.{no_later_joins, clash_from, conflict_from}
@@ -31,6 +38,33 @@ operations_in_all ds = flat_map (λ (d : Delta). d.operations) ds
 -- with no other operations nothing conflicts, nor without deltas
 pub none_clash : (xs : List Operation) → IsLeastBy IsNoLater (OperationsClash xs []) None
 none_clash xs found clash = no_element clash.2.0 clash.2.1
+
+-- of the things of the first operations together
+pub clash_by_things : (xs ys : List Operation) (o : Option Thing) → IsLeastBy IsNoLater (Among (ThingsClash (flat_map touched_by xs)) ys) o → IsLeastBy IsNoLater (OperationsClash xs ys) o
+clash_by_things xs ys o is = least_same IsNoLater o to back is
+  where
+    to : (found : Thing) → Among (ThingsClash (flat_map touched_by xs)) ys found → OperationsClash xs ys found
+    to found (y, of_ys, (b, of_y, (a, of_xs, clash))) = let x = from_flat touched_by xs a of_xs in (x.0, x.1, (y, of_ys, (a, x.2, (b, of_y, clash))))
+
+    back : (found : Thing) → OperationsClash xs ys found → Among (ThingsClash (flat_map touched_by xs)) ys found
+    back found (x, of_xs, (y, of_ys, (a, of_x, (b, of_y, clash)))) = (y, of_ys, (b, of_y, (a, within_flat touched_by xs x a of_xs of_x, clash)))
+
+-- a thing more, and the things of an operation more, behind those of earlier ones
+pub things_next : (before things : List calculus.Thing) (i : ℕ) (a : calculus.Thing) → slice_get things i ≡ Some a → (before ++ take i things) ++ a ∷ [] ≡ before ++ take (i + 1) things
+things_next before things i a here =
+    append_assoc before (take i things) (a ∷ [])
+    ∙ ap (λ xs. before ++ xs) (sym (take_more things i a (slice_get_within things i a here) ∙ ap (λ x. take i things ++ x ∷ []) (get_or_from_slice_get things i a a here)))
+
+pub touched_next : (names : List Text) (exprs : List ExprNode) (before : List calculus.Thing) (xs : List ClassOp) (i : ℕ) (x : ClassOp) → slice_get xs i ≡ Some x
+    → (before ++ flat_map touched_by (map (plain_operation names exprs) (take i xs))) ++ touched_by (plain_operation names exprs x)
+    ≡ before ++ flat_map touched_by (map (plain_operation names exprs) (take (i + 1) xs))
+touched_next names exprs before xs i x here =
+    let more : take (i + 1) xs ≡ take i xs ++ x ∷ [] = take_more xs i x (slice_get_within xs i x here) ∙ ap (λ y. take i xs ++ y ∷ []) (get_or_from_slice_get xs i x x here) in
+    append_assoc before (flat_map touched_by (map (plain_operation names exprs) (take i xs))) (touched_by (plain_operation names exprs x))
+    ∙ ap (λ zs. before ++ zs) (sym (ap (λ zs. flat_map touched_by (map (plain_operation names exprs) zs)) more
+    ∙ ap (flat_map touched_by) (map-append (plain_operation names exprs) (take i xs) (x ∷ []))
+    ∙ flat_map-append touched_by (map (plain_operation names exprs) (take i xs)) (plain_operation names exprs x ∷ [])
+    ∙ ap (λ zs. flat_map touched_by (map (plain_operation names exprs) (take i xs)) ++ zs) (append-nil (touched_by (plain_operation names exprs x)))))
 
 pub none_among_none : IsLeastBy IsNoLater (DeltasClash []) None
 none_among_none found w = delta_by_delta.none found.first found.second w

@@ -14,3 +14,4 @@ pub mod ReadyLemmas
 pub mod PartLemmas
 pub mod PassLemmas
 pub mod ConflictLemmas
+pub mod KeptLemmas

@@ -1,5 +1,5 @@
 -- The operations of the active deltas of a part.
-use Rattle.std.proofs.Common.{◌≡◌, ℕ, ◌+◌, ◌<◌, ◌≤◌, Bool, true, false, cond, List, [], ◌∷◌, ◌++◌, map, take, length, filter, slice_get, get_or, Some, refl, sym, ap, ◌∙◌}
+use Rattle.std.proofs.Common.{◌≡◌, ℕ, zero, suc, ◌+◌, ◌<◌, ◌≤◌, Bool, true, false, cond, List, [], ◌∷◌, ◌++◌, map, take, length, filter, slice_get, get_or, Some, refl, sym, ap, ◌∙◌, arith}
 use Rattle.std.specs.List.{flat_map, cons_option}
 use Rattle.std.specs.Option.{option_map}
 use Rattle.std.proofs.lemmas.List.{append-nil, take_more, take_all}
@@ -9,6 +9,7 @@ use Rattle.std.proofs.lemmas.Option.{slice_get-map}
 use Rattle.dj_tree.specs.Trees as plain
 use Rattle.dj_tree.specs.Trees.{Delta, Operation}
 use Rattle.dj_tree.specs.Plain.{plain_delta, plain_operation, plain_source}
+use Rattle.dj_tree.specs.declared.declarations.ClassOp.{ClassOp}
 use Rattle.dj_tree.specs.declared.declarations.DeltaDecl.{DeltaDecl}
 use Rattle.dj_tree.specs.declared.source.Source.{Source}
 use Rattle.dj_calculus.specs.Configurations.{Configuration}
@@ -27,6 +28,20 @@ active_delta s line c delta d is here on =
     let there : slice_get line.deltas delta ≡ Some (plain_delta s.names s.exprs d) =
     ap (λ (x : plain.Source). slice_get x.deltas delta) (sym is) ∙ slice_get-map (plain_delta s.names s.exprs) s.deltas delta ∙ ap (option_map (plain_delta s.names s.exprs)) here in
     sym (one_active line (is_active line c delta) delta (plain_delta s.names s.exprs d) on there)
+
+-- the element of a number that is there
+there_at : {X : Type 0} (xs : List X) (k : ℕ) → k < length xs → (x : X) × (slice_get xs k ≡ Some x)
+there_at [] k low = absurd (omega (arith, low))
+there_at (x ∷ xs) zero low = (x, refl)
+there_at (x ∷ xs) (suc k) low = there_at xs k (omega (arith, low))
+
+-- what is said to be the operations of the delta of a number
+pub active_operations_are : (s : Source) (line : plain.Source) (c : Configuration) (delta : ℕ) (ops : List ClassOp) → plain_source s ≡ line → delta < length line.deltas
+    → ((d : Delta) → slice_get (plain_source s).deltas delta ≡ Some d → d.operations ≡ map (plain_operation s.names s.exprs) ops) → is_active line c delta ≡ true
+    → map (plain_operation s.names s.exprs) ops ≡ active_operations line c (delta ∷ [])
+active_operations_are s line c delta ops is low are on =
+    let d = there_at line.deltas delta low in
+    sym (are d.0 (ap (λ (x : plain.Source). slice_get x.deltas delta) is ∙ d.1)) ∙ sym (one_active line (is_active line c delta) delta d.0 on d.1)
 
 pub none_active : (source : plain.Source) (b : Bool) (delta : ℕ) → b ≡ false → flat_map (λ (d : Delta). d.operations) (plain_order source (cond b (delta ∷ []) [])) ≡ []
 none_active source true delta off = absurd cc

@@ -5,6 +5,7 @@ pub mod Ready
 pub mod Members
 pub mod Touched
 pub mod Overlaps
+pub mod Kept
 pub mod Attempts
 pub mod ActiveOperations
 pub mod ApplyErrors

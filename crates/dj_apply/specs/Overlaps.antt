@@ -26,6 +26,10 @@ ThingClash a y = Among (Clash a) (touched_by y)
 abbrev pub OperationClash : Operation → Operation → Thing → Type 0
 OperationClash x y = Among (λ a. ThingClash a y) (touched_by x)
 
+-- one of these things conflicts with one that the operation touches
+abbrev pub ThingsClash : List calculus.Thing → Operation → Thing → Type 0
+ThingsClash before y = Among (λ b. Among (λ a. Clash a b) before) (touched_by y)
+
 -- a thing of one of the first operations conflicts with one of one of the others
 abbrev pub OperationsClash : List Operation → List Operation → Thing → Type 0
 OperationsClash xs ys = Among (λ x. Among (OperationClash x) ys) xs

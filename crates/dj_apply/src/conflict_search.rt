@@ -1,21 +1,24 @@
 //! The least conflict of the active deltas of a line.
-ghost use Rattle.std.specs.Prelude.{◌≡◌, ◌-◌, ◌<◌, ◌≤◌, [], ◌∷◌, ◌++◌, Some, All, map, length, slice_get, IfOk, OnOk};
+ghost use Rattle.std.specs.Prelude.{◌≡◌, ◌-◌, ◌<◌, ◌≤◌, [], ◌∷◌, ◌++◌, List, Some, All, map, length, slice_get, IfOk, OnOk};
+ghost use Rattle.std.specs.List.{flat_map};
 ghost use Rattle.dj_names.specs.Texts.{AreDistinct};
 ghost use Rattle.dj_tree.specs.Plain.{plain_operation};
-ghost use Rattle.dj_tree.specs.Trees.{Part};
+ghost use Rattle.dj_tree.specs.Trees.{Operation, Part};
 ghost use Rattle.dj_tree.specs.WellFormed.{IsOperation};
 ghost use Rattle.dj_calculus.specs.Parts.{chain};
+ghost use Rattle.dj_calculus.specs.Things as calculus;
+ghost use Rattle.dj_calculus.specs.Things.{touched_by};
 ghost use Rattle.dj_line.specs.Lines.{plain_line};
 ghost use Rattle.dj_product_laws.specs.LineConflicts.{ConflictIn};
 ghost use Rattle.dj_apply.specs.ActiveOperations.{active_operations, active_deltas, IsSourceOf};
-ghost use Rattle.dj_apply.specs.Attempts.{plain_operations};
-ghost use Rattle.dj_apply.specs.Least.{IsLeastBy};
-ghost use Rattle.dj_apply.specs.Overlaps.{IsNoLater, OperationsClash, DeltasClash, PartClash};
-ghost use Rattle.dj_apply.specs.Ready.{IsReady};
+ghost use Rattle.dj_apply.specs.Kept.{Keeps};
+ghost use Rattle.dj_apply.specs.Least.{IsLeastBy, Among};
+ghost use Rattle.dj_apply.specs.Overlaps.{IsNoLater, ThingsClash, OperationsClash, DeltasClash, PartClash};
 
-use crate::attempts::{NamedOperation, push_operations};
-use crate::overlaps::{Thing, delta_at, earlier, overlap_with_each};
+use crate::least_places::LeastPlaces;
+use crate::overlaps::{Thing, earlier, operations_of};
 use crate::pass::{chain_length, part_number};
+use crate::things::{thing_at, touched_count};
 use dj_line::{Config, Line};
 use dj_names::names_are_distinct;
 use dj_tree::{ClassOp, Source};
@@ -58,7 +61,8 @@ fn conflict_of_part(
     conflict_of_deltas(alloc, line, source, config, line.items(part))
 }
 
-// The least conflict of two of the active ones of these deltas.
+// The least conflict of two of the active ones of these deltas. Each is looked at once, against the things of all earlier
+// ones together.
 fn conflict_of_deltas(
     alloc: Global,
     line: &Line,
@@ -72,22 +76,22 @@ fn conflict_of_deltas(
     ensures { IfOk result (IsLeastBy IsNoLater (DeltasClash (active_deltas (plain_line line.now) config.now.chosen.items deltas.now))) }
 {
     names_are_distinct(&source.names);
-    let mut operations = Vec::new(alloc);
+    let mut places = LeastPlaces::new(alloc);
     let mut least = None;
     for delta in deltas {
-        let here = push_and_compare(alloc, &mut operations, line, source, config, *delta)?;
+        let here = compare_and_keep(alloc, &mut places, line, source, config, *delta)?;
         least = earlier(least, here);
     }
     Ok(least)
 }
 
-// Puts the operations of a delta behind those of earlier ones, where it is active, and gives the least conflict with
-// them.
-fn push_and_compare<'a>(
+// The least conflict of the operations of a delta, where it is active, with earlier ones, the places of whose things are
+// kept. Those of the delta are kept too from then on.
+fn compare_and_keep(
     alloc: Global,
-    operations: &mut Vec<NamedOperation<'a>>,
+    places: &mut LeastPlaces,
     line: &Line,
-    source: &'a Source,
+    source: &Source,
     config: &Config,
     delta: u32,
 ) -> Result<Option<Thing>, NoMemory>
@@ -95,35 +99,87 @@ fn push_and_compare<'a>(
     requires distinct { AreDistinct source.now.names }
     requires features { length config.now.chosen.items ≡ length (plain_line line.now).features }
     requires below { delta < length (plain_line line.now).deltas }
-    requires ready { All (λ x. IsReady source.now.names source.now.exprs x.operation.now) operations.old.items }
-    ensures pushed { OnOk result (plain_operations source.now.names source.now.exprs operations.new.items
-        ≡ plain_operations source.now.names source.now.exprs operations.old.items ++ active_operations (plain_line line.now) config.now.chosen.items (delta ∷ [])) }
-    ensures ready { OnOk result (All (λ x. IsReady source.now.names source.now.exprs x.operation.now) operations.new.items) }
-    ensures least { IfOk result (IsLeastBy IsNoLater (OperationsClash (plain_operations source.now.names source.now.exprs operations.old.items)
-        (active_operations (plain_line line.now) config.now.chosen.items (delta ∷ [])))) }
+    ensures kept { (before : List Operation) → Keeps source.now.names places.old (flat_map touched_by before)
+        → OnOk result (Keeps source.now.names places.new (flat_map touched_by (before ++ active_operations (plain_line line.now) config.now.chosen.items (delta ∷ [])))) }
+    ensures least { (before : List Operation) → Keeps source.now.names places.old (flat_map touched_by before)
+        → IfOk result (IsLeastBy IsNoLater (OperationsClash before (active_operations (plain_line line.now) config.now.chosen.items (delta ∷ [])))) }
 {
     if line.is_active(alloc, config, delta)? {
-        let declared = delta_at(source, delta);
-        let others = declared.ops.as_slice();
-        let here = conflict_with(source, operations, others);
-        push_operations(operations, source, others)?;
+        let others = operations_of(source, delta);
+        let here = conflict_of_operations(source, places, others);
+        keep_operations(source, places, others)?;
         Ok(here)
     } else {
         Ok(None)
     }
 }
 
-// The least conflict of the things of earlier operations and those of others.
-fn conflict_with(source: &Source, ones: &[NamedOperation], others: &[ClassOp]) -> Option<Thing>
-    requires distinct { AreDistinct source.now.names }
-    requires ready { All (λ x. IsReady source.now.names source.now.exprs x.operation.now) ones.now }
+// The least conflict of the things whose places are kept with those of operations.
+fn conflict_of_operations(
+    source: &Source,
+    places: &LeastPlaces,
+    others: &[ClassOp],
+) -> Option<Thing>
     requires known { All (IsOperation source.now.names source.now.exprs) others.now }
-    ensures { IsLeastBy IsNoLater (OperationsClash (plain_operations source.now.names source.now.exprs ones.now) (map (plain_operation source.now.names source.now.exprs) others.now)) result }
+    ensures { (before : List calculus.Thing) → Keeps source.now.names places.now before
+        → IsLeastBy IsNoLater (Among (ThingsClash before) (map (plain_operation source.now.names source.now.exprs) others.now)) result }
 {
     let mut least = None;
-    for one in ones {
-        let here = overlap_with_each(source, one.operation, others);
+    for other in others {
+        let here = conflict_of_operation(source, places, other);
         least = earlier(least, here);
     }
     least
+}
+
+// The least conflict of the things whose places are kept with those of an operation.
+fn conflict_of_operation(source: &Source, places: &LeastPlaces, other: &ClassOp) -> Option<Thing>
+    requires known { IsOperation source.now.names source.now.exprs other.now }
+    ensures { (before : List calculus.Thing) → Keeps source.now.names places.now before
+        → IsLeastBy IsNoLater (ThingsClash before (plain_operation source.now.names source.now.exprs other.now)) result }
+{
+    let mut least = None;
+    let count = touched_count(other);
+    for number in 0..count {
+        let thing = thing_at(other, number);
+        let here = places.conflict_with(thing);
+        least = earlier(least, here);
+    }
+    least
+}
+
+// Keeps the places of the things of operations too. Without memory the places are of no use.
+fn keep_operations(
+    source: &Source,
+    places: &mut LeastPlaces,
+    others: &[ClassOp],
+) -> Result<(), NoMemory>
+    requires distinct { AreDistinct source.now.names }
+    requires known { All (IsOperation source.now.names source.now.exprs) others.now }
+    ensures { (before : List calculus.Thing) → Keeps source.now.names places.old before
+        → OnOk result (Keeps source.now.names places.new (before ++ flat_map touched_by (map (plain_operation source.now.names source.now.exprs) others.now))) }
+{
+    for other in others {
+        keep_operation(source, places, other)?;
+    }
+    Ok(())
+}
+
+// Keeps the places of the things of an operation too.
+fn keep_operation(
+    source: &Source,
+    places: &mut LeastPlaces,
+    other: &ClassOp,
+) -> Result<(), NoMemory>
+    requires distinct { AreDistinct source.now.names }
+    requires known { IsOperation source.now.names source.now.exprs other.now }
+    ensures { (before : List calculus.Thing) → Keeps source.now.names places.old before
+        → OnOk result (Keeps source.now.names places.new (before ++ touched_by (plain_operation source.now.names source.now.exprs other.now))) }
+{
+    let count = touched_count(other);
+    for number in 0..count {
+        let thing = thing_at(other, number);
+        places.keep(thing)?;
+    }
+    Ok(())
 }

@@ -7,6 +7,7 @@ mod bodies;
 mod conflict_search;
 mod growing;
 mod least;
+mod least_places;
 mod members;
 mod overlaps;
 mod parts;

@@ -68,7 +68,7 @@ pub fn overlap(line: &Line, first: u32, second: u32) -> Option<Thing>
 }
 
 // The operations of the delta of a number.
-fn operations_of(source: &Source, delta: u32) -> &[ClassOp]
+pub fn operations_of(source: &Source, delta: u32) -> &[ClassOp]
     requires well_formed { IsWellFormed source.now }
     requires there { delta < length source.now.deltas }
     ensures operations { (d : Delta) → slice_get (plain_source source.now).deltas delta ≡ Some d → d.operations ≡ map (plain_operation source.now.names source.now.exprs) result.now }
@@ -102,7 +102,7 @@ fn least_overlap(source: &Source, ones: &[ClassOp], others: &[ClassOp]) -> Optio
 }
 
 // The least conflict of the things of an operation and those of others.
-pub fn overlap_with_each(source: &Source, one: &ClassOp, others: &[ClassOp]) -> Option<Thing>
+fn overlap_with_each(source: &Source, one: &ClassOp, others: &[ClassOp]) -> Option<Thing>
     requires distinct { AreDistinct source.now.names }
     requires one_known { IsOperation source.now.names source.now.exprs one.now }
     requires others_known { All (IsOperation source.now.names source.now.exprs) others.now }
