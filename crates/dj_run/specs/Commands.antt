@@ -57,20 +57,29 @@ abbrev pub generation : Text → Text → Option Text → Command
 generation file config None = generate file config
 generation file config (Some order) = generate_in_order file config order
 
--- a command other than `generate`
+-- a command that isn't built yet
 abbrev pub IsUnbuilt : Option Command → Type 0
 IsUnbuilt None = ⊥
-IsUnbuilt (Some (check _)) = Unit {0}
+IsUnbuilt (Some (check _)) = ⊥
 IsUnbuilt (Some (generate _ _)) = ⊥
 IsUnbuilt (Some (generate_in_order _ _ _)) = ⊥
 IsUnbuilt (Some (verify _ _)) = Unit {0}
 IsUnbuilt (Some (explain _)) = Unit {0}
-IsUnbuilt (Some (typecheck _)) = Unit {0}
+IsUnbuilt (Some (typecheck _)) = ⊥
 IsUnbuilt (Some (sample _)) = Unit {0}
 IsUnbuilt (Some (try _)) = Unit {0}
 
--- the command reads this file
-pub record ReadsFile (command : Option Command) (file : Text) : Type 0 where
-  pub config : Text
-  pub order : Option Text
-  pub is : command ≡ Some (generation file config order)
+-- the file that a command reads, if any
+abbrev pub file_of : Option Command → Option Text
+file_of None = None
+file_of (Some (check file)) = Some file
+file_of (Some (generate file _)) = Some file
+file_of (Some (generate_in_order file _ _)) = Some file
+file_of (Some (verify _ _)) = None
+file_of (Some (explain _)) = None
+file_of (Some (typecheck file)) = Some file
+file_of (Some (sample _)) = None
+file_of (Some (try _)) = None
+
+abbrev pub ReadsFile : Option Command → Text → Type 0
+ReadsFile command file = file_of command ≡ Some file

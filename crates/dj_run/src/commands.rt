@@ -6,14 +6,27 @@ ghost use Rattle.dj_run.specs.Outcomes.{Reads};
 
 /// A command, as far as it is built.
 pub enum Command<'a> {
-    /// The product of a configuration, in the order of deltas that a word gives where one is given.
-    Generate {
+    /// A question about a file.
+    Ask {
         file: &'a str,
+        question: Question<'a>,
+    },
+    /// A command that isn't built yet.
+    Unbuilt,
+}
+
+/// What is asked about a file.
+#[derive(Drop)]
+pub enum Question<'a> {
+    /// Whether a product line is good.
+    IsGood,
+    /// The Java text of a configuration of a product line, in the order of deltas that a word gives where one is given.
+    Generated {
         config: &'a str,
         order: Option<&'a str>,
     },
-    /// A command other than `generate`.
-    Unbuilt,
+    /// Whether a Java file is well typed.
+    IsTyped,
 }
 
 /// The command that the words say, or None where they say none.
@@ -35,6 +48,25 @@ pub fn command_of(words: &[String]) -> Option<Command<'_>>
     }
 }
 
+fn with_one<'a>(word: &str, operand: &'a str) -> Option<Command<'a>>
+    ensures { Reads result (command_of_one word.now operand.now) }
+{
+    if word == "check" {
+        Some(Command::Ask {
+            file: operand,
+            question: Question::IsGood,
+        })
+    } else if word == "typecheck" {
+        Some(Command::Ask {
+            file: operand,
+            question: Question::IsTyped,
+        })
+    } else {
+        let takes_count = word == "sample" || word == "try";
+        unbuilt(word == "explain" || takes_count && is_count(operand.as_bytes()))
+    }
+}
+
 fn unbuilt<'a>(is_command: bool) -> Option<Command<'a>>
     ensures { result ≡ (if is_command then Some Command.Unbuilt else None) }
 {
@@ -45,25 +77,22 @@ fn unbuilt<'a>(is_command: bool) -> Option<Command<'a>>
     }
 }
 
-fn with_one<'a>(word: &str, operand: &'a str) -> Option<Command<'a>>
-    ensures { Reads result (command_of_one word.now operand.now) }
-{
-    let reads_file = word == "check" || word == "explain" || word == "typecheck";
-    let takes_count = word == "sample" || word == "try";
-    unbuilt(reads_file || takes_count && is_count(operand.as_bytes()))
-}
-
 fn with_two<'a>(word: &str, first: &'a str, second: &'a str) -> Option<Command<'a>>
     ensures { Reads result (command_of_two word.now first.now second.now) }
 {
     if word == "generate" {
-        return Some(Command::Generate {
+        Some(Command::Ask {
             file: first,
-            config: second,
-            order: None,
-        });
+            question: Question::Generated {
+                config: second,
+                order: None,
+            },
+        })
+    } else if word == "verify" {
+        Some(Command::Unbuilt)
+    } else {
+        None
     }
-    unbuilt(word == "verify")
 }
 
 fn with_three<'a>(
@@ -77,10 +106,12 @@ fn with_three<'a>(
     if word != "generate" {
         return None;
     }
-    Some(Command::Generate {
+    Some(Command::Ask {
         file: first,
-        config: second,
-        order: Some(third),
+        question: Question::Generated {
+            config: second,
+            order: Some(third),
+        },
     })
 }
 

@@ -1,5 +1,5 @@
 //! The answer of `generate` for the bytes of a file.
-ghost use Rattle.std.specs.Prelude.{◌≡◌, ◌≢◌, ◌≤◌, ◌^◌, ℕ, List, Option, Ok, Some, length, IfOk, OnOk};
+ghost use Rattle.std.specs.Prelude.{◌≡◌, ◌≢◌, ◌≤◌, ℕ, List, Option, Some, length, IfOk, OnOk};
 ghost use Rattle.dj_lexer.specs.declared.token.TheConstants.{MAX_LENGTH};
 ghost use Rattle.dj_calculus.specs.Configurations.{ConfigurationFault};
 ghost use Rattle.dj_calculus.specs.Products.{OrderFault};
@@ -7,20 +7,17 @@ ghost use Rattle.dj_line.specs.Lines.{plain_line};
 ghost use Rattle.dj_line.specs.Words.{config_error};
 ghost use Rattle.dj_line.specs.OrderWords.{order_error};
 ghost use Rattle.dj_report.specs.WordTexts.{configuration_text, order_text as order_fault_text, IsConfigurationRefusal, IsOrderRefusal};
-ghost use Rattle.dj_front.specs.Files.{IsRefusedFor};
-ghost use Rattle.dj_plain.specs.Products.{source_size};
-ghost use Rattle.dj_run.specs.Answers.{Generates, LineAnswer, OrderAnswer, product_answer, refused_word as word_answer};
+ghost use Rattle.dj_front.specs.Files.{IsLineFile};
+ghost use Rattle.dj_run.specs.Answers.{Generates, LineAnswer, OrderAnswer, VariantAnswer, refused_word as word_answer};
 ghost use Rattle.dj_run.specs.Outcomes.{answer_of, word_of, IsReading};
 
 use crate::outcome::Outcome;
 use crate::reading::Reading;
-use crate::texts::too_long_text;
-use dj_front::{FileError, read_line, refusals_are_said};
-use dj_lexer::token_spans;
+use crate::texts::{instance_text, refused_line, too_long_text};
+use dj_front::{FileError, read_line};
+use dj_generate::{VariantError, generate as variant_text};
 use dj_line::{Config, ConfigError, Line, OrderError};
-use dj_plain::{is_plain, product_text};
-use dj_refusals::Refusal;
-use dj_report::{config_text, order_text, refusal_text};
+use dj_report::{config_text, order_text};
 use std::alloc::{AllocError as NoMemory, Global};
 
 /// The answer for what was read of a file, a configuration word, and an order word where one is given.
@@ -51,39 +48,28 @@ fn bytes_outcome(
 {
     let line = match read_line(alloc, bytes) {
         Ok(line) => line,
-        Err(FileError::Refused(refusal)) => return refused_file(alloc, bytes, &refusal),
+        Err(FileError::Refused(refusal)) => return refused_line(alloc, bytes, &refusal),
         Err(FileError::NoMemory) => return Err(NoMemory),
     };
-    token_spans();
-    line_outcome(alloc, &line, config, order)
-}
-
-/// The answer for a file that is refused.
-fn refused_file(alloc: Global, bytes: &[u8], refusal: &Refusal) -> Result<Outcome, NoMemory>
-    requires short { length bytes.now ≤ MAX_LENGTH }
-    requires refused { IsRefusedFor bytes.now refusal.now }
-    ensures { IfOk result (λ outcome. (config : List ℕ) (order : Option (List ℕ)) →
-        Generates config order bytes.now (answer_of outcome)) }
-{
-    refusals_are_said();
-    Ok(Outcome::FileRefused(refusal_text(alloc, bytes, refusal)?))
+    line_outcome(alloc, bytes, &line, config, order)
 }
 
 /// The answer for a line.
 fn line_outcome(
     alloc: Global,
+    bytes: &[u8],
     line: &Line,
     config: &str,
     order: Option<&str>,
 ) -> Result<Outcome, NoMemory>
-    requires { source_size (plain_line line.now) ≤ 2 ^ 30 }
-    ensures { IfOk result (λ outcome. LineAnswer (plain_line line.now) config.now (word_of order.entry) (answer_of outcome)) }
+    requires { IsLineFile bytes.now (plain_line line.now) }
+    ensures { IfOk result (λ outcome. LineAnswer config.now (word_of order.entry) bytes.now (plain_line line.now) (answer_of outcome)) }
 {
     let chosen = match line.config_of(alloc, config) {
         Ok(chosen) => chosen,
         Err(error) => return refused_configuration(alloc, config, &error),
     };
-    order_outcome(alloc, line, &chosen, order)
+    order_outcome(alloc, bytes, line, &chosen, order)
 }
 
 /// The answer for a configuration word that is refused.
@@ -106,36 +92,38 @@ fn refused_configuration(
 /// The answer for a configuration of a line.
 fn order_outcome(
     alloc: Global,
+    bytes: &[u8],
     line: &Line,
     chosen: &Config,
     order: Option<&str>,
 ) -> Result<Outcome, NoMemory>
+    requires says { IsLineFile bytes.now (plain_line line.now) }
     requires chosen { length chosen.now.chosen.items ≡ length (plain_line line.now).features }
-    requires small { source_size (plain_line line.now) ≤ 2 ^ 30 }
-    ensures { IfOk result (λ outcome. OrderAnswer (plain_line line.now) chosen.now.chosen.items (word_of order.entry) (answer_of outcome)) }
+    ensures { IfOk result (λ outcome. OrderAnswer bytes.now (plain_line line.now) chosen.now.chosen.items (word_of order.entry) (answer_of outcome)) }
 {
     match order {
-        None => product_outcome(alloc, line, chosen),
-        Some(word) => word_outcome(alloc, line, chosen, word),
+        None => variant_outcome(alloc, bytes, line, chosen),
+        Some(word) => word_outcome(alloc, bytes, line, chosen, word),
     }
 }
 
 /// The answer for an order word.
 fn word_outcome(
     alloc: Global,
+    bytes: &[u8],
     line: &Line,
     chosen: &Config,
     word: &str,
 ) -> Result<Outcome, NoMemory>
+    requires says { IsLineFile bytes.now (plain_line line.now) }
     requires chosen { length chosen.now.chosen.items ≡ length (plain_line line.now).features }
-    requires small { source_size (plain_line line.now) ≤ 2 ^ 30 }
-    ensures { IfOk result (λ outcome. OrderAnswer (plain_line line.now) chosen.now.chosen.items (Some word.now) (answer_of outcome)) }
+    ensures { IfOk result (λ outcome. OrderAnswer bytes.now (plain_line line.now) chosen.now.chosen.items (Some word.now) (answer_of outcome)) }
 {
     let _order = match line.order_of(alloc, chosen, word) {
         Ok(order) => order,
         Err(error) => return refused_order(alloc, word, &error),
     };
-    product_outcome(alloc, line, chosen)
+    variant_outcome(alloc, bytes, line, chosen)
 }
 
 /// The answer for an order word that is refused.
@@ -151,14 +139,23 @@ fn refused_order(alloc: Global, word: &str, error: &OrderError) -> Result<Outcom
     }
 }
 
-/// The answer for the product of a configuration.
-fn product_outcome(alloc: Global, line: &Line, chosen: &Config) -> Result<Outcome, NoMemory>
+/// The answer for the variant of a configuration.
+fn variant_outcome(
+    alloc: Global,
+    bytes: &[u8],
+    line: &Line,
+    chosen: &Config,
+) -> Result<Outcome, NoMemory>
+    requires says { IsLineFile bytes.now (plain_line line.now) }
     requires chosen { length chosen.now.chosen.items ≡ length (plain_line line.now).features }
-    requires small { source_size (plain_line line.now) ≤ 2 ^ 30 }
-    ensures { IfOk result (λ outcome. answer_of outcome ≡ product_answer (plain_line line.now) chosen.now.chosen.items) }
+    ensures { IfOk result (λ outcome. VariantAnswer bytes.now (plain_line line.now) chosen.now.chosen.items (answer_of outcome)) }
 {
-    if !is_plain(alloc, line.source())? {
-        return Ok(Outcome::NotBuilt);
+    match variant_text(alloc, line, chosen) {
+        Ok(text) => Ok(Outcome::Made(text)),
+        Err(VariantError::Broken(instance)) => {
+            let text = instance_text(alloc, bytes, line, chosen, &instance)?;
+            Ok(Outcome::No(text))
+        }
+        Err(VariantError::NoMemory) => Err(NoMemory),
     }
-    Ok(Outcome::Product(product_text(alloc, line, chosen)?))
 }

@@ -2,6 +2,7 @@
 #![tactic(auto)]
 
 mod answer;
+mod checking;
 mod commands;
 mod generation;
 mod laws;
@@ -10,7 +11,8 @@ mod program;
 mod reading;
 mod status;
 mod texts;
+mod typechecking;
 
-pub use laws::answers_of_words;
+pub use laws::{answers_of_words, generated_texts_typecheck};
 pub use program::run;
 pub use status::Status;

@@ -11,6 +11,10 @@ const USAGE: &str =
 
 const NOT_BUILT: &str = "not built\n";
 
+const YES: &str = "yes\n";
+
+const YES_VOID: &str = "yes void\n";
+
 /// An answer of the program: a status, and a text for its output.
 #[derive(Drop)]
 pub enum Outcome {
@@ -20,8 +24,14 @@ pub enum Outcome {
     FileRefused(Vec<u8>),
     /// Why a word of the command line is refused.
     WordRefused(Vec<u8>),
-    /// The canonical text of the product.
-    Product(Vec<u8>),
+    /// The text that was asked for.
+    Made(Vec<u8>),
+    /// What was asked for holds.
+    Yes,
+    /// The line is right, since no configuration is valid.
+    YesVoid,
+    /// Why it doesn't.
+    No(Vec<u8>),
 }
 
 impl Outcome {
@@ -33,7 +43,8 @@ impl Outcome {
             Outcome::NotBuilt => Status::NOT_BUILT,
             Outcome::FileRefused(_) => Status::FILE_REFUSED,
             Outcome::WordRefused(_) => Status::WORD_REFUSED,
-            Outcome::Product(_) => Status::DONE,
+            Outcome::Made(_) | Outcome::Yes | Outcome::YesVoid => Status::DONE,
+            Outcome::No(_) => Status::REFUTED,
         }
     }
 
@@ -43,9 +54,12 @@ impl Outcome {
         match self {
             Outcome::Usage => USAGE.as_bytes(),
             Outcome::NotBuilt => NOT_BUILT.as_bytes(),
-            Outcome::FileRefused(text) | Outcome::WordRefused(text) | Outcome::Product(text) => {
-                text.as_slice()
-            }
+            Outcome::Yes => YES.as_bytes(),
+            Outcome::YesVoid => YES_VOID.as_bytes(),
+            Outcome::FileRefused(text)
+            | Outcome::WordRefused(text)
+            | Outcome::Made(text)
+            | Outcome::No(text) => text.as_slice(),
         }
     }
 }

@@ -1,13 +1,20 @@
 //! The program, over any files and any sink.
-ghost use Rattle.std.specs.Prelude.{◌≡◌, ◌≢◌, ◌≤◌, [], List, ℕ, map, take, length};
+ghost use Rattle.std.specs.Prelude.{◌≡◌, ◌≢◌, ◌≤◌, [], List, ℕ, Option, Some, map, take, length};
 ghost use Rattle.std.specs.String.{string_bytes};
 ghost use Rattle.dj_io.specs.Count.{Follows, Rises};
 ghost use Rattle.std.specs.Io.KnownBytes.{Keeps, append_known};
-ghost use Rattle.dj_run.specs.Commands.{command_of, ReadsFile};
+ghost use Rattle.dj_tree.specs.Trees.{Source};
+ghost use Rattle.dj_calculus.specs.Configurations.{Configuration, ConfigurationWord};
+ghost use Rattle.dj_calculus.specs.Good.{IsGood};
+ghost use Rattle.dj_front.specs.Files.{IsLineFile};
+ghost use Rattle.dj_check.specs.Small.{IsSmall};
+ghost use Rattle.dj_run.specs.Commands.{check, generation, command_of, ReadsFile};
+ghost use Rattle.dj_run.specs.Headline.{IsVerdict, IsAllowedWord, IsVariant};
 ghost use Rattle.dj_run.specs.Answers.{Answer, Defines};
 ghost use Rattle.dj_run.specs.Outcomes.{IsDone, answer_of};
 
 use crate::answer::answer;
+use crate::laws::one_each;
 use crate::outcome::{Outcome, Stop};
 use crate::status::Status;
 use dj_io::{Files, Sink};
@@ -25,6 +32,19 @@ pub fn run<F: Files, O: Sink>(alloc: Global, words: &[String], files: &mut F, ou
         × (result.0 ≡ answer.status)
         × Keeps (O.written out.new) (append_known (O.written out.old) answer.text)
         × (answer.text ≡ [] → out.new ≡ out.old) }
+
+    // The headline, for lines of at most 12 features: over the bytes of FILE, the bytes appended and the status.
+    ensures headline { IsDone result.0 → (file bytes : List ℕ) (source : Source) → (command_of (map string_bytes words.now) ≡ Some (check file))
+        → (F.left files.old file ≡ Some bytes) → IsLineFile bytes source → IsSmall source
+        → (answer : Answer) × (result.0 ≡ answer.status)
+        × Keeps (O.written out.new) (append_known (O.written out.old) answer.text)
+        × IsVerdict bytes source answer }
+    ensures variants { IsDone result.0 → (file bytes config : List ℕ) (order : Option (List ℕ)) (source : Source) (c : Configuration)
+        → (command_of (map string_bytes words.now) ≡ Some (generation file config order))
+        → (F.left files.old file ≡ Some bytes) → IsLineFile bytes source → IsGood source → ConfigurationWord source config c → IsAllowedWord source c order
+        → (answer : Answer) × (result.0 ≡ answer.status)
+        × Keeps (O.written out.new) (append_known (O.written out.old) answer.text)
+        × IsVariant source c answer }
 
     // A read that failed raised the count of its file, and nothing is written.
     ensures read_failed { result.0 ≡ 66 → (file : List ℕ)
@@ -47,6 +67,7 @@ pub fn run<F: Files, O: Sink>(alloc: Global, words: &[String], files: &mut F, ou
     ensures others { (other : List ℕ) → ¬ ReadsFile (command_of (map string_bytes words.now)) other →
         F.left files.new other ≡ F.left files.old other }
 {
+    one_each();
     match answer(alloc, words, files) {
         Ok(outcome) => put_outcome(out, &outcome),
         Err(Stop::ReadFailed) => Status::READ_FAILED,

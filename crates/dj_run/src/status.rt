@@ -7,6 +7,8 @@ pub struct Status(pub u8);
 impl Status {
     /// The output is what was asked for.
     pub const DONE: Status = Status(0);
+    /// A rule is broken.
+    pub const REFUTED: Status = Status(1);
     /// The file was refused.
     pub const FILE_REFUSED: Status = Status(2);
     /// The configuration word or the order word was refused.

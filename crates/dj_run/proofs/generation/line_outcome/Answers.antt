@@ -22,7 +22,7 @@ returns-in-Err c =
     told_by c.refused_configuration.result c.in-Err.error config.NoMemory config_error _ _ c.refused_configuration.ensures.text c.refused_configuration.ensures.memory
     (λ outcome other told.
     let found = configuration_fault_of source c.args.config.now c.in-Err.error other c.in-Err.ensures.refused in
-    subst (LineAnswer source c.args.config.now (word_of c.args.order)) (sym (told found.0 found.1)) (configuration_refused found.0 found.2))
+    subst (LineAnswer c.args.config.now (word_of c.args.order) c.args.bytes.now source) (sym (told found.0 found.1)) (configuration_refused found.0 found.2))
 
 pub returns : goal.returns
 returns c =

@@ -5,6 +5,7 @@ use Rattle.dj_line.specs.OrderWords.{order_error}
 use Rattle.dj_line.specs.declared.errors.OrderError.TheVariants as order
 use Rattle.dj_report.specs.WordTexts.{IsOrderRefusal}
 use Rattle.dj_run.specs.Answers.{OrderAnswer, in_order, order_refused}
+use Rattle.dj_run.specs.Outcomes.{answer_of}
 use Rattle.dj_run.proofs.WordAnswers.{order_fault_of, order_sayable}
 use Rattle.dj_run.proofs.Refusing.{told_by}
 use Rattle.dj_run.proofs.generation.word_outcome.Goals as goal
@@ -21,11 +22,10 @@ returns-in-Err c =
     told_by c.refused_order.result c.in-Err.error order.NoMemory order_error _ _ c.refused_order.ensures.text c.refused_order.ensures.memory
     (λ outcome other told.
     let found = order_fault_of source c.args.chosen.now.chosen.items c.args.word.now c.in-Err.error other c.in-Err.ensures.refused in
-    subst (OrderAnswer source c.args.chosen.now.chosen.items _) (sym (told found.0 found.1)) (order_refused c.args.word.now found.0 found.2))
+    subst (OrderAnswer c.args.bytes.now source c.args.chosen.now.chosen.items _) (sym (told found.0 found.1)) (order_refused c.args.word.now found.0 found.2))
 
 pub returns : goal.returns
 returns c =
-    let source = plain_line c.args.line.now in
-    IfOk-weaker c.product_outcome.result _ _ (λ outcome is.
+    IfOk-weaker c.variant_outcome.result _ _ (λ outcome is.
     let stands = (c.in-Ok.ensures.given (λ e. cc)).0 refl in
-    subst (OrderAnswer source c.args.chosen.now.chosen.items _) (sym is) (in_order c.args.word.now stands.0 stands.1)) c.product_outcome.ensures
+    in_order c.args.word.now stands.0 (answer_of outcome) stands.1 is) c.variant_outcome.ensures
