@@ -2,9 +2,15 @@
 #![tactic(auto)]
 
 #[cfg(test)]
+mod check_tests;
+#[cfg(test)]
+mod java_tests;
+#[cfg(test)]
 mod refutations;
 #[cfg(test)]
 mod tests;
+#[cfg(test)]
+mod variant_tests;
 
 use dj_run::{Status, run};
 use dj_system::{Output, SystemFiles};

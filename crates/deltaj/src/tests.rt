@@ -41,7 +41,7 @@ fn answer(alloc: Global, bytes: &[u8], line: &str) -> Result<(Status, SureSink),
 }
 
 /// A command over one file is answered with this text and this status.
-fn is_answered(
+pub fn is_answered(
     rt: &impl Abort,
     alloc: Global,
     source: &str,
@@ -151,20 +151,20 @@ fn lines_are_generated_or_refused(rt: HostRuntime) -> Result<(), Fail> {
         (
             "line L { features; valid true; part p { X; Y; } }\ndelta X { adds class C { } }\ndelta Y { modifies class C { } }\n",
             "generate f -",
-            "not built\n",
-            Status::NOT_BUILT,
+            "no\nconfiguration -\nrule 1 overlap: C at 2:22 and 3:26\n",
+            Status::REFUTED,
         ),
         (
             "line L { features; valid true; part a { P; } part b after a { Q; R; } }\ndelta P { adds class C { } }\ndelta Q { modifies class C { adds C b; } }\ndelta R { modifies class C { adds C a; } }\n",
             "generate f - P,Q,R",
-            "not built\n",
-            Status::NOT_BUILT,
+            "class C extends Object {\n  C a;\n  C b;\n}\n",
+            Status::DONE,
         ),
         (
             "line L { features; valid true; part a { P; } part b after a { Q; R; } }\ndelta P { adds class C { } }\ndelta Q { modifies class C { adds C b; } }\ndelta R { modifies class C { adds C a; } }\n",
             "generate f - P,R,Q",
-            "not built\n",
-            Status::NOT_BUILT,
+            "class C extends Object {\n  C a;\n  C b;\n}\n",
+            Status::DONE,
         ),
         (
             "line L { features; valid true; part a { P; } part b after a { Q; R; } }\ndelta P { adds class C { } }\ndelta Q { modifies class C { adds C b; } }\ndelta R { modifies class C { adds C a; } }\n",
@@ -290,7 +290,13 @@ fn lines_are_generated_or_refused(rt: HostRuntime) -> Result<(), Fail> {
 #[test]
 fn words_and_bytes_define_the_answer(rt: HostRuntime) -> Result<(), Fail> {
     let rows = [
-        ("check f", NOT_BUILT, Status::NOT_BUILT),
+        ("check f", "yes\n", Status::DONE),
+        (
+            "typecheck f",
+            "refused at 1:1: syntax\n",
+            Status::FILE_REFUSED,
+        ),
+        ("typecheck absent", "yes\n", Status::DONE),
         ("explain f", NOT_BUILT, Status::NOT_BUILT),
         ("sample 1", NOT_BUILT, Status::NOT_BUILT),
         ("try 64", NOT_BUILT, Status::NOT_BUILT),
