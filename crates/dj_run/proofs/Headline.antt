@@ -1,16 +1,15 @@
 -- What is answered of a family.
-use Rattle.std.proofs.Common.{◌≡◌, ◌↔◌, ℕ, List, Option, None, Some, refl, sym, ap, subst, arith}
+use Rattle.std.proofs.Common.{◌≡◌, ℕ, List, Option, None, Some, refl, subst, arith}
 use Rattle.std.specs.Option.{ForSome}
 use Rattle.dj_names.specs.Texts.{Text}
 use Rattle.dj_tree.specs.Trees.{Source}
-use Rattle.dj_calculus.specs.Accepted.{IsAccepted}
 use Rattle.dj_calculus.specs.Configurations.{Configuration, IsValid, ConfigurationWord}
 use Rattle.dj_calculus.specs.Good.{IsGood}
 use Rattle.dj_front.specs.Files.{IsLineFile}
 use Rattle.dj_check.specs.Small.{IsSmall}
 use Rattle.dj_line.proofs.ConfigWords.{no_fault}
 use Rattle.dj_line.proofs.OrderWords.{no_order_fault}
-use Rattle.dj_run.specs.Commands.{Command, check, generate, generate_in_order, generation}
+use Rattle.dj_run.specs.Commands.{Command, check, generation}
 use Rattle.dj_run.specs.Answers.{Answer, Checks, right, void, wrong, not_small, VariantAnswer, good, bad, OrderAnswer, in_any_order, in_order, order_refused, LineAnswer, configured, configuration_refused, OfLine, of_line, file_refused, Answers}
 use Rattle.dj_run.specs.Headline.{IsVerdict, IsAllowedWord, IsVariant}
 use Rattle.dj_run.specs.OneEach.{OneEach}

@@ -1,9 +1,7 @@
 -- The bytes of a Java file define one answer of `typecheck` at most.
-use Rattle.std.proofs.Common.{◌≡◌, ◌≤◌, ◌<◌, ◌++◌, ℕ, List, length, codes, refl, sym, ap, ◌∙◌, subst, arith}
-use Rattle.dj_names.specs.Texts.{Text}
+use Rattle.std.proofs.Common.{◌≡◌, ◌≤◌, ◌<◌, ◌++◌, ℕ, List, length, codes, refl, sym, ap, subst, arith}
 use Rattle.dj_lexer.specs.Symbols.{symbols_of}
 use Rattle.dj_lexer.specs.declared.token.TheConstants.{MAX_LENGTH}
-use Rattle.dj_lexer.specs.declared.token.LexFault.{LexFault}
 use Rattle.dj_tree.specs.declared.source.Instance.{Instance}
 use Rattle.dj_calculus.specs.Instances.{IsLeast}
 use Rattle.dj_calculus.specs.TableRules.{CountsIn}
@@ -12,7 +10,6 @@ use Rattle.dj_calculus.specs.Tables.{Table}
 use Rattle.dj_calculus.specs.Typing.{WellTyped}
 use Rattle.dj_calculus.specs.JavaText.{line as text_line}
 use Rattle.dj_calculus.proofs.SpelledExpressions.{spelled_java}
-use Rattle.dj_refusals.specs.declared.refusal.JavaFault.{JavaFault}
 use Rattle.dj_refusals.specs.declared.refusal.Refusal.{Refusal}
 use Rattle.dj_refusals.specs.declared.refusal.Refusal.TheVariants as refusal
 use Rattle.dj_report.specs.Refusals.{IsRefusalText}

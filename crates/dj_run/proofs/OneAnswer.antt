@@ -4,7 +4,6 @@ use Rattle.std.specs.Option.{ForSome}
 use Rattle.std.proofs.lemmas.Bool.{false≢true}
 use Rattle.dj_names.specs.Texts.{Text}
 use Rattle.dj_tree.specs.Trees.{Source}
-use Rattle.dj_tree.specs.declared.source.Instance.{Instance}
 use Rattle.dj_calculus.specs.Accepted.{IsAccepted}
 use Rattle.dj_calculus.specs.Configurations.{Configuration}
 use Rattle.dj_calculus.specs.Good.{IsGood}

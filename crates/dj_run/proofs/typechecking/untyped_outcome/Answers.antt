@@ -1,5 +1,4 @@
-use Rattle.std.proofs.Common.{◌++◌, ◌∙◌, codes, ap, sym, subst}
-use Rattle.dj_calculus.specs.JavaText.{line as text_line}
+use Rattle.std.proofs.Common.{sym, subst}
 use Rattle.dj_calculus.specs.TableRules.{StandsIn}
 use Rattle.ifj_table.specs.Tables.{plain_table}
 use Rattle.dj_run.specs.Answers.{refuted, Typechecks, untyped}
